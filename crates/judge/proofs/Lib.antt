@@ -1,0 +1,3 @@
+pub mod LegSteps
+pub mod LeadSteps
+pub mod OpposedSteps

@@ -1,0 +1,4 @@
+pub mod Refusals
+pub mod Lowest
+pub mod Legs
+pub mod Meetings

@@ -1,0 +1,4 @@
+// Judging: whether a sheet can be driven in a yard under a following rule, and how early.
+mod legs;
+mod meetings;
+pub mod refusal;
