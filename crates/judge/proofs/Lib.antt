@@ -1,3 +1,4 @@
 pub mod LegSteps
 pub mod LeadSteps
 pub mod OpposedSteps
+pub mod WaitSteps

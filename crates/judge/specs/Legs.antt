@@ -1,7 +1,7 @@
 -- The legs between stops, as judging holds them: for each stop the travel time to it from the stop before it, and the next stop.
 use mathlib.Core.Path.{_≡_}
 use mathlib.Core.List.{List}
-use Prim.Native.Nat.{ℕ, _<_}
+use Prim.Native.Nat.{ℕ, _≤_, _<_}
 use lib.ListN.{length, getD}
 use Rattle.std.specs.declared.option.Option.{Option}
 use Rattle.std.specs.declared.option.Option.the-variants.{Some, None}
@@ -15,9 +15,13 @@ use Rattle.judge.specs.declared.refusal.JudgeRefusal.the-variants.{PageTooShor
 abbrev pub Short-of-goal : List Carrier → ℕ → Type 0
 Short-of-goal carriers c = (c < length carriers) × (getD carriers c no-carrier .«last_place» ≡ getD carriers c no-carrier .goal → ⊥)
 
--- each next stop is one of the n stops
-abbrev pub NextsInside : ℕ → List (Option ℕ) → Type 0
-NextsInside n nexts = (s t : ℕ) → getD nexts s None ≡ Some t → t < n
+-- each next stop is one of the stops
+abbrev pub NextsInside : List (Option ℕ) → Type 0
+NextsInside nexts = (s t : ℕ) → getD nexts s None ≡ Some t → t < length nexts
+
+-- the travel time to each next stop is that of a lane
+abbrev pub Timely : List ℕ → List (Option ℕ) → Type 0
+Timely times nexts = (s t : ℕ) → getD nexts s None ≡ Some t → (1 ≤ getD times t 0) × (getD times t 0 ≤ 36000)
 
 module _ (lanes : ℕ → ℕ → Option ℕ) (stops : List Stop) where
   -- the stop before stop t on its route is p

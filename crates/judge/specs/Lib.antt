@@ -2,3 +2,4 @@ pub mod Refusals
 pub mod Lowest
 pub mod Legs
 pub mod Meetings
+pub mod Waits

@@ -40,8 +40,8 @@ pub(crate) fn previous_of(stops: &[Stop], i: usize) -> Option<usize>
 
 // The stop after stop `s` on its route, if there is one.
 pub(crate) fn next_of(nexts: &[Option<u16>], s: usize) -> Option<usize>
-    requires { ⌜ s < length (now nexts) ⌝ ∗ ⌜ NextsInside 1024 (now nexts) ⌝ }
-    ensures { λ r. ⌜ BySome r (getD (now (nexts .entry)) s None ≡ None) (λ t. getD (now (nexts .entry)) s None ≡ Some t) ⌝ }
+    requires { ⌜ s < length (now nexts) ⌝ ∗ ⌜ NextsInside (now nexts) ⌝ }
+    ensures { λ r. ⌜ BySome r (getD (now (nexts .entry)) s None ≡ None) (λ t. (getD (now (nexts .entry)) s None ≡ Some t) × (t < length (now (nexts .entry)))) ⌝ }
 {
     match nexts[s] {
         Some(next) => Some(next as usize),
@@ -57,7 +57,7 @@ pub(crate) fn find_legs<Y: Yard>(
     times: &mut [u16],
     nexts: &mut [Option<u16>],
 ) -> Result<(), JudgeRefusal>
-    requires few { ⌜ length (now stops) ≤ 1024 ⌝ ∗ ⌜ 1024 ≤ length (now times) ⌝ ∗ ⌜ 1024 ≤ length (now nexts) ⌝ }
+    requires sizes { ⌜ (length (now stops) ≤ 1024) × (length (now times) ≡ length (now stops)) × (length (now nexts) ≡ length (now stops)) ⌝ }
     requires linked { ⌜ Linked (now stops) ⌝ }
     requires empty { ⌜ ((s : ℕ) → getD (now nexts) s None ≡ None) ⌝ }
     ensures { λ r. ⌜ ByOk r (λ _. Legs (Y·Yard .lanes (now (yard .entry))) (now (stops .entry)) (length (now (stops .entry))) (now (times .exit)) (now (nexts .exit))) (λ e. LegRefused (Y·Yard .lanes (now (yard .entry))) (now (stops .entry)) e) ⌝ }

@@ -76,8 +76,8 @@ fn head_on_at(
     nexts: &[Option<u16>],
     leads: &[bool],
 ) -> Option<(usize, usize)>
-    requires sizes { ⌜ (length (now stops) ≤ 1024) × (1024 ≤ length (now nexts)) × (length (now leads) ≡ 65536) ⌝ }
-    requires inside { ⌜ Linked (now stops) ⌝ ∗ ⌜ NextsInside (length (now stops)) (now nexts) ⌝ ∗ ⌜ (now precedence .first < 64) × (now precedence .«first_stop» < length (now stops)) × (now precedence .«second_stop» < length (now stops)) ⌝ }
+    requires sizes { ⌜ (length (now stops) ≤ 1024) × (length (now nexts) ≡ length (now stops)) × (length (now leads) ≡ 65536) ⌝ }
+    requires inside { ⌜ Linked (now stops) ⌝ ∗ ⌜ NextsInside (now nexts) ⌝ ∗ ⌜ (now precedence .first < 64) × (now precedence .«first_stop» < length (now stops)) × (now precedence .«second_stop» < length (now stops)) ⌝ }
     ensures { λ r. ⌜ BySome r ((s t : ℕ) → Opposed-by (now (stops .entry)) (now (nexts .entry)) (now (leads .entry)) (now (precedence .entry)) s t → ⊥) (λ p. (p .0 < 1024) × (p .1 < 1024) × Opposed-by (now (stops .entry)) (now (nexts .entry)) (now (leads .entry)) (now (precedence .entry)) (p .0) (p .1) × ((s t : ℕ) → Opposed-by (now (stops .entry)) (now (nexts .entry)) (now (leads .entry)) (now (precedence .entry)) s t → (p .0 ≡ s) × (p .1 ≡ t))) ⌝ }
 {
     let t = precedence.first_stop as usize;
@@ -107,8 +107,8 @@ fn lowest_head_on(
     nexts: &[Option<u16>],
     leads: &[bool],
 ) -> Option<(usize, usize)>
-    requires sizes { ⌜ (length (now stops) ≤ 1024) × (1024 ≤ length (now nexts)) × (length (now leads) ≡ 65536) ⌝ }
-    requires inside { ⌜ Linked (now stops) ⌝ ∗ ⌜ NextsInside (length (now stops)) (now nexts) ⌝ ∗ ⌜ PrecedencesInside 64 (length (now stops)) (now precedences) ⌝ }
+    requires sizes { ⌜ (length (now stops) ≤ 1024) × (length (now nexts) ≡ length (now stops)) × (length (now leads) ≡ 65536) ⌝ }
+    requires inside { ⌜ Linked (now stops) ⌝ ∗ ⌜ NextsInside (now nexts) ⌝ ∗ ⌜ PrecedencesInside 64 (length (now stops)) (now precedences) ⌝ }
     ensures { λ r. ⌜ LowestOpposed (now (stops .entry)) (now (nexts .entry)) (now (leads .entry)) (now (precedences .entry)) (length (now (precedences .entry))) r ⌝ }
 {
     let mut lowest: Option<(usize, usize)> = None;
@@ -130,8 +130,8 @@ pub(crate) fn check_head_on(
     nexts: &[Option<u16>],
     leads: &[bool],
 ) -> Result<(), JudgeRefusal>
-    requires sizes { ⌜ (length (now stops) ≤ 1024) × (1024 ≤ length (now nexts)) × (length (now leads) ≡ 65536) ⌝ }
-    requires inside { ⌜ Linked (now stops) ⌝ ∗ ⌜ NextsInside (length (now stops)) (now nexts) ⌝ ∗ ⌜ PrecedencesInside 64 (length (now stops)) (now precedences) ⌝ }
+    requires sizes { ⌜ (length (now stops) ≤ 1024) × (length (now nexts) ≡ length (now stops)) × (length (now leads) ≡ 65536) ⌝ }
+    requires inside { ⌜ Linked (now stops) ⌝ ∗ ⌜ NextsInside (now nexts) ⌝ ∗ ⌜ PrecedencesInside 64 (length (now stops)) (now precedences) ⌝ }
     ensures { λ r. ⌜ ByOk r (λ _. LowestOpposed (now (stops .entry)) (now (nexts .entry)) (now (leads .entry)) (now (precedences .entry)) (length (now (precedences .entry))) None) (λ e. (s : ℕ) × (t : ℕ) × (e ≡ HeadOn s t) × LowestOpposed (now (stops .entry)) (now (nexts .entry)) (now (leads .entry)) (now (precedences .entry)) (length (now (precedences .entry))) (Some (s, t))) ⌝ }
 {
     match lowest_head_on(precedences, stops, nexts, leads) {
