@@ -2,3 +2,4 @@ pub mod LegSteps
 pub mod LeadSteps
 pub mod OpposedSteps
 pub mod WaitSteps
+pub mod Fronts

@@ -1,4 +1,5 @@
 // Judging: whether a sheet can be driven in a yard under a following rule, and how early.
+pub mod judging;
 mod legs;
 mod meetings;
 mod waits;

@@ -1,1 +1,4 @@
 pub mod Ways
+pub mod Solved
+pub mod Progress
+pub mod Traced

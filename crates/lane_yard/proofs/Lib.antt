@@ -1,2 +1,4 @@
 pub mod Times
 pub mod Rises
+pub mod Listed
+pub mod Single

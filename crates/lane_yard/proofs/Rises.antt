@@ -76,16 +76,16 @@ module _ (xs : List Lane) (r : Rising xs) (f t : ℕ) where
         ap (λ (l : Lane). (l .from, l .to)) (sym (part i h)) ∙ first .1 no-lane in
         sym (only (low + i) within (ap (λ (p : ℕ × ℕ). p .0) key) (ap (λ (p : ℕ × ℕ). p .1) key))
 
+    same-key : (i k : ℕ) → i < high - low → low + i ≡ k → getD xs k no-lane .from ≡ f → getD xs k no-lane .to ≡ t → _≡_ {A = ℕ × ℕ} (getD (take (high - low) (drop low xs)) i no-lane .from, getD (take (high - low) (drop low xs)) i no-lane .to) (f, t)
+    same-key i k h e p q = let s = part i h ∙ ap (λ n. getD xs n no-lane) e in cc
+
     absent : Nowhere {K = ℕ × ℕ} (λ (l : Lane). (l .from, l .to)) (f, t) (take (high - low) (drop low xs)) → Absent xs f t 0 (length xs)
     absent none k lo hi p q =
         elim (decLt k low) [
           | yes below ↦ a .none-before k lo below p q
           | no above ↦ elim (decLt k high) [
             | yes inside ↦
-                let h : k - low < high - low = omega arith in
-                let e : low + (k - low) ≡ k = omega arith in
-                let s : getD (take (high - low) (drop low xs)) (k - low) no-lane ≡ getD xs k no-lane = part (k - low) h ∙ ap (λ n. getD xs n no-lane) e in
-                none (k - low) no-lane (omega arith) (omega (arith, long)) (ap (λ (l : Lane). (l .from, l .to)) s ∙ (cc))
+                none (k - low) no-lane (omega arith) (omega (arith, long)) (same-key (k - low) k (omega arith) (omega arith) p q)
             | no past ↦ a .none-after k (omega arith) hi p q
           ]
         ]

@@ -21,7 +21,7 @@ hit a b f t p q = grind (arith, tells)
 miss : (a b f t : ℕ) → (a ≡ f → b ≡ t → ⊥) → (eqb a f && eqb b t) ≡ false
 miss a b f t n = grind (arith, tells)
 
-way : (a b f t : ℕ) → (((eqb a f && eqb b t) ≡ true) × (a ≡ f) × (b ≡ t)) ⊎ ((eqb a f && eqb b t) ≡ false)
+pub way : (a b f t : ℕ) → (((eqb a f && eqb b t) ≡ true) × (a ≡ f) × (b ≡ t)) ⊎ ((eqb a f && eqb b t) ≡ false)
 way a b f t = grind (arith, tells)
 
 -- at the first lane that joins the places, its time

@@ -1,3 +1,4 @@
 pub mod Refusals
 pub mod Records
 pub mod Faults
+pub mod Meaning

@@ -5,6 +5,7 @@ use mathlib.Core.List.{List, [], _∷_}
 use Prim.Native.Nat.{ℕ, _+_, _≤_, _<_}
 use lib.Dec.{eqb}
 use lib.ListN.{length, getD}
+use Rattle.std.specs.shelf.Lists.{Has}
 use Rattle.std.specs.declared.option.Option.{Option}
 use Rattle.std.specs.declared.option.Option.the-variants.{Some, None}
 use Rattle.yard.specs.Limits.{LaneWithin}
@@ -23,9 +24,17 @@ abbrev pub time-of : List Lane → ℕ → ℕ → Option ℕ
 time-of [] from to = None
 time-of (l ∷ ls) from to = cond (eqb (l .from) from && eqb (l .to) to) (Some (l .time)) (time-of ls from to)
 
+-- the lane between two places in a travel time
+abbrev pub lane : ℕ → ℕ → ℕ → Lane
+lane from to time = record { from = from; to = to; time = time }
+
 -- what is read past the end of a list
 abbrev pub no-lane : Lane
-no-lane = record { from = 0; to = 0; time = 0 }
+no-lane = lane 0 0 0
+
+-- these lanes are those of the list: each that stands in it, and no other
+abbrev pub LanesOf : List Lane → (ℕ → ℕ → Option ℕ) → Type 0
+LanesOf xs lanes = (from to time : ℕ) → (lanes from to ≡ Some time → Has xs (lane from to time)) × (Has xs (lane from to time) → lanes from to ≡ Some time)
 
 -- each lane is within the limits
 abbrev pub AllWithin : List Lane → Type 0

@@ -2,4 +2,5 @@
 mod checks;
 pub mod lane;
 pub mod refusal;
+mod search;
 pub mod yards;

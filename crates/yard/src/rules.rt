@@ -58,9 +58,16 @@ impl FixedGap {
         FixedGap { ticks: 0 }
     }
 
+    // The gap.
+    pub fn ticks(&self) -> u16
+        ensures { λ r. ⌜ (r ≡ now (self .entry) .ticks) × (r ≤ 36000) ⌝ }
+    {
+        self.ticks
+    }
+
     // Makes the gap `ticks`, or refuses more than 36,000 and keeps the old one.
     pub fn set(&mut self, ticks: u16) -> Result<(), GapRefusal>
-        ensures { λ r. ⌜ ByOk r (λ _. (ticks ≤ 36000) × (now (self .exit) .ticks ≡ ticks)) (λ e. (36000 < ticks) × (now (self .exit) ≡ now (self .entry))) ⌝ }
+        ensures { λ r. ⌜ ByOk r (λ _. (ticks ≤ 36000) × (now (self .exit) .ticks ≡ ticks)) (λ e. (36000 < ticks) × (e ≡ GapRefusal.GapTooLong) × (now (self .exit) ≡ now (self .entry))) ⌝ }
     {
         if ticks > 36000 {
             return Err(GapRefusal::GapTooLong);

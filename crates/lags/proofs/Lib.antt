@@ -1,0 +1,11 @@
+pub mod Ways
+pub mod Pigeons
+pub mod Raises
+pub mod InRounds
+pub mod Traces
+pub mod Marks
+pub mod Ceilings
+pub mod Chases
+pub mod Turns
+pub mod Reversals
+pub mod Fits

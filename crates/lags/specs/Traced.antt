@@ -1,0 +1,90 @@
+-- The way back from a node that was raised, along what raised what.
+use mathlib.Core.Path.{_≡_}
+use mathlib.Core.List.{List, [], _∷_, _++_, reverse}
+use Prim.Native.Nat.{ℕ, _+_, _-_, _*_, _≤_, _<_}
+use lib.IntN.{ℤ, pos, _+ℤ_}
+use lib.ListN.{length, take}
+use Rattle.std.specs.shelf.Lists.{All, Has}
+use Rattle.lags.specs.declared.Lag.{Lag}
+use Rattle.lags.specs.Solved.{at}
+use Rattle.lags.specs.Progress.{lag-at, RaisedBy, Progress, Rounds}
+
+abbrev pub Distinct : List ℕ → Type 0
+Distinct [] = Unit {0}
+Distinct (x ∷ xs) = All (λ y. x ≡ y → ⊥) xs × Distinct xs
+
+-- some lag ends at v
+abbrev pub End : List Lag → ℕ → Type 0
+End lags v = (g : Lag) × Has lags g × (g .to ≡ v)
+
+-- at most m nodes are where lags end
+abbrev pub AtMost : List Lag → ℕ → Type 0
+AtMost lags m = (xs : List ℕ) → All (End lags) xs → Distinct xs → length xs ≤ m
+
+-- more rounds raised something than there are nodes to raise, and the last of them raised v last
+pub record Overrun (lags : List Lag) (p : ℕ → ℕ) (v : ℕ) : Type 0 where
+  pub m : ℕ
+  pub a : ℕ → ℕ
+  pub most : AtMost lags m
+  pub rounds : Rounds lags (m + 1) a p v
+
+module _ (lags : List Lag) (p : ℕ → ℕ) where
+  -- the lag that raised y last
+  abbrev pub parent : ℕ → Lag
+  parent y = lag-at lags (p y)
+
+  -- from v back through the nodes xs, each to the one that raised it, one comes to u
+  abbrev pub Back : ℕ → List ℕ → ℕ → Type 0
+  Back v [] u = v ≡ u
+  Back v (y ∷ ys) u = (y ≡ v) × Back (parent y .from) ys u
+
+  -- the sum of the lags that raised the nodes
+  abbrev pub weights : List ℕ → ℤ
+  weights [] = pos 0
+  weights (y ∷ ys) = parent y .weight +ℤ weights ys
+
+  -- each node was raised, by its parent
+  abbrev pub Raised : (a when : ℕ → ℕ) → List ℕ → Type 0
+  Raised a when xs = All (λ y. (p y < length lags) × RaisedBy a when (length lags) y (parent y)) xs
+
+  -- the way back from v, through distinct nodes that were raised
+  pub record Traced (a when : ℕ → ℕ) (v : ℕ) (xs : List ℕ) (u : ℕ) : Type 0 where
+    pub way : Back v xs u
+    pub raised : Raised a when xs
+    pub distinct : Distinct xs
+
+  -- the way back after an overrun, short enough that u was raised too
+  pub record Chased (v : ℕ) (xs : List ℕ) (u : ℕ) : Type 0 where
+    pub over : Overrun lags p v
+    pub traced : Traced (over .a) (over .rounds .progress .when) v xs u
+    pub late : over .m * length lags < over .rounds .progress .when u + length xs * length lags
+
+  -- a way back to where it began, of at least one node
+  pub record Circle (xs : List ℕ) : Type 0 where
+    pub a : ℕ → ℕ
+    pub when : ℕ → ℕ
+    pub node : ℕ
+    pub traced : Traced a when node xs node
+    pub some : 0 < length xs
+
+-- the places have for each node one more than where it stands in xs, and 0 for every other
+pub record Placed (xs places : List ℕ) : Type 0 where
+  pub seen : All (λ y. 0 < at places y) xs
+  pub stands : (y : ℕ) → 0 < at places y → (at places y ≤ length xs) × (at xs (at places y - 1) ≡ y)
+
+-- the way back from v has come to x; its nodes are the first of an array, and another has their places
+pub record Tracing (lags : List Lag) (parents : List ℕ) (v : ℕ) (nodes places : List ℕ) (len x : ℕ) : Type 0 where
+  pub chased : Chased lags (at parents) v (take len nodes) x
+  pub placed : Placed (take len nodes) places
+  pub inside : x < length parents
+  pub room : len ≤ length parents
+  pub size : length places ≡ 1024
+
+-- the numbers in the opposite order, going round from the lowest
+pub record Turned (xs ys : List ℕ) : Type 0 where
+  pub front : List ℕ
+  pub low : ℕ
+  pub rest : List ℕ
+  pub splits : xs ≡ front ++ low ∷ rest
+  pub turns : ys ≡ low ∷ reverse (rest ++ front)
+  pub least : All (λ x. low ≤ x) xs

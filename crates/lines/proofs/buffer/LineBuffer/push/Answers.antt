@@ -1,0 +1,28 @@
+use mathlib.Core.Path.{_≡_, sym, _∙_}
+use mathlib.Core.List.{List, [], _∷_, _++_}
+use Prim.Native.Nat.{ℕ, _+_, _<_, _≤_}
+use lib.ListN.{length, take, set}
+use native.Mathlib.Omega.{arith}
+use borrow.Author.Needs.{needs}
+use Rattle.std.proofs.shelf.Lists.{take-more-set, take-all, take-append-le, length-push, length-take-le}
+use Rattle.lines.proofs.buffer.LineBuffer.push.Needs as need
+
+-- one more byte is kept while there is room
+more : (bytes : List ℕ) (count byte : ℕ) → count < 65 → length bytes ≡ 65 → take (count + 1) (set bytes count byte) ≡ take 65 (take count bytes ++ byte ∷ [])
+more bytes count byte h k =
+    let m = take-more-set bytes count byte (omega arith) in
+    let n = length-push (take count bytes) byte in
+    let l = length-take-le count bytes (omega arith) in
+    m ∙ sym (take-all 65 (take count bytes ++ byte ∷ []) (omega arith))
+
+-- past the room no byte is kept
+full : (bytes : List ℕ) (count byte : ℕ) → count ≡ 65 → length bytes ≡ 65 → take count bytes ≡ take 65 (take count bytes ++ byte ∷ [])
+full bytes count byte h k =
+    let l = length-take-le count bytes (omega arith) in
+    sym (take-append-le 65 (take count bytes) (byte ∷ []) (omega arith) ∙ take-all 65 (take count bytes) (omega arith))
+
+pub returns-then-self-lt65 : need.returns-then-self-lt65
+returns-then-self-lt65 c = more (c .args .self .now .bytes) (c .args .self .now .count) (c .args .byte) (search needs) (search needs)
+
+pub returns-else-self-lt65 : need.returns-else-self-lt65
+returns-else-self-lt65 c = full (c .args .self .now .bytes) (c .args .self .now .count) (c .args .byte) (search needs) (search needs)

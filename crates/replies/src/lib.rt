@@ -1,0 +1,3 @@
+// Replies, written as lines into a page.
+mod list;
+pub mod reply;
