@@ -3,3 +3,4 @@ pub mod LeadSteps
 pub mod OpposedSteps
 pub mod WaitSteps
 pub mod Fronts
+pub mod Settlings

@@ -23,6 +23,10 @@ NextsInside nexts = (s t : ℕ) → getD nexts s None ≡ Some t → t < length 
 abbrev pub Timely : List ℕ → List (Option ℕ) → Type 0
 Timely times nexts = (s t : ℕ) → getD nexts s None ≡ Some t → (1 ≤ getD times t 0) × (getD times t 0 ≤ 36000)
 
+-- the travel time of each step is that of a lane
+abbrev pub Stepped : List Stop → List ℕ → Type 0
+Stepped stops times = (t p : ℕ) → t < length stops → getD stops t no-stop .previous ≡ Some p → (1 ≤ getD times t 0) × (getD times t 0 ≤ 36000)
+
 module _ (lanes : ℕ → ℕ → Option ℕ) (stops : List Stop) where
   -- the stop before stop t on its route is p
   abbrev pub Previous : ℕ → ℕ → Type 0

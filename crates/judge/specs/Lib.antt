@@ -3,3 +3,4 @@ pub mod Lowest
 pub mod Legs
 pub mod Meetings
 pub mod Waits
+pub mod Settling

@@ -2,15 +2,16 @@
 use mathlib.Core.Path.{_≡_}
 use mathlib.Core.List.{List}
 use mathlib.Core.Logic.{_⊎_}
-use Prim.Native.Nat.{ℕ, _+_, _<_}
+use Prim.Native.Nat.{ℕ, _+_, _≤_, _<_}
 use lib.IntN.{ℤ, pos, _-ℤ_}
 use lib.ListN.{length, getD}
 use Rattle.std.specs.declared.option.Option.{Option}
 use Rattle.std.specs.declared.option.Option.the-variants.{Some, None}
 use Rattle.sheet.specs.declared.records.Precedence.{Precedence}
 use Rattle.sheet.specs.declared.records.Stop.{Stop}
-use Rattle.sheet.specs.Tables.{no-precedence, no-stop}
+use Rattle.sheet.specs.Tables.{Linked, PrecedencesInside, no-precedence, no-stop}
 use Rattle.lags.specs.declared.Lag.{Lag}
+use Rattle.judge.specs.Legs.{NextsInside, Stepped, Timely}
 
 -- what is read past the end of a list
 abbrev pub no-lag : Lag
@@ -36,3 +37,19 @@ pub record Lists (P : Lag → Type 0) (count : ℕ) (lags : List Lag) : Type 0 w
 -- a step to one of the stops below n, or the lag of one of the first m precedences
 abbrev pub LagOf : (ℕ → ℕ → ℕ → ℕ) → List Stop → List ℕ → List (Option ℕ) → List Precedence → ℕ → ℕ → Lag → Type 0
 LagOf gap stops times nexts precedences n m g = Travel stops times n g ⊎ ((k : ℕ) × (k < m) × Waiting gap stops times nexts (getD precedences k no-precedence) g)
+
+-- the tables from which the lags are gathered fit together
+pub record Ready (stops : List Stop) (times : List ℕ) (nexts : List (Option ℕ)) (precedences : List Precedence) : Type 0 where
+  pub few : length stops ≤ 1024
+  pub few-precedences : length precedences ≤ 2048
+  pub each-time : length times ≡ length stops
+  pub each-next : length nexts ≡ length stops
+  pub linked : Linked stops
+  pub inside : NextsInside nexts
+  pub lawful : PrecedencesInside 64 (length stops) precedences
+  pub stepped : Stepped stops times
+  pub timely : Timely times nexts
+
+-- a lag from one stop to another
+abbrev pub Between : (ℕ → ℕ → ℕ → ℕ) → List Stop → List ℕ → List (Option ℕ) → List Precedence → ℕ → ℕ → ℤ → Type 0
+Between gap stops times nexts precedences s t w = LagOf gap stops times nexts precedences (length stops) (length precedences) (record { from = s; to = t; weight = w })

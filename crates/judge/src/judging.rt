@@ -1,8 +1,19 @@
 // The judging of a sheet.
 ghost use mathlib.Core.Path.{_≡_};
 ghost use mathlib.Core.List.{_++_};
-ghost use Prim.Native.Nat.{ℕ, _^_, _<_, _≤_};
+ghost use Prim.Native.Nat.{ℕ, max, _^_, _<_, _≤_};
 ghost use lib.ListN.{drop, getD, length};
+ghost use Rattle.judge.specs.Settling.{Settles};
+ghost use Rattle.judge.specs.Waits.{Between, Ready};
+use crate::refusal::JudgeRefusal;
+use crate::waits::gather_steps;
+use crate::waits::gather_waits;
+use lags::Lag;
+use lags::Outcome;
+use lags::solve;
+use sheet::records::Precedence;
+use sheet::records::Stop;
+use yard::FollowingRule;
 
 // Writes the arrivals to the front of the timetable.
 fn write_timetable(arrivals: &[u64], timetable: &mut [u32])
@@ -11,5 +22,39 @@ fn write_timetable(arrivals: &[u64], timetable: &mut [u32])
 {
     for (i, arrival) in arrivals.iter().enumerate() {
         timetable[i] = *arrival as u32;
+    }
+}
+
+// Works out the earliest arrivals from the lags and writes them to the timetable, or finds a ring and writes it to the
+// ring page.
+fn settle<R: FollowingRule>(
+    rule: &R,
+    precedences: &[Precedence],
+    stops: &[Stop],
+    times: &[u16],
+    nexts: &[Option<u16>],
+    timetable: &mut [u32],
+    ring: &mut [u16],
+) -> Result<u16, JudgeRefusal>
+    requires ready { ⌜ Ready (now stops) (now times) (now nexts) (now precedences) ⌝ }
+    requires pages { ⌜ (length (now stops) ≤ length (now timetable)) × (length (now stops) ≤ length (now ring)) ⌝ }
+    ensures { λ r. ⌜ Settles (Between (R·FollowingRule .gaps (now (rule .entry))) (now (stops .entry)) (now (times .entry)) (now (nexts .entry)) (now (precedences .entry))) (length (now (stops .entry))) (max 36000 (R·FollowingRule .largest)) (record { timetable = now (timetable .entry); ring = now (ring .entry); timetable-after = now (timetable .exit); ring-after = now (ring .exit) }) r ⌝ }
+{
+    let mut lags = [Lag {
+        from: 0,
+        to: 0,
+        weight: 0,
+    }; 3072];
+    let steps = gather_steps(stops, times, &mut lags);
+    let count = gather_waits(rule, precedences, stops, times, nexts, &mut lags, steps);
+    let mut arrivals = [0; 1024];
+    let arrivals = &mut arrivals[0..stops.len()];
+    match solve(&lags[0..count], arrivals, ring) {
+        Outcome::Settled => {
+            write_timetable(arrivals, timetable);
+            Ok(stops.len() as u16)
+        }
+        Outcome::Ring { length } => Err(JudgeRefusal::Ring { length }),
+        Outcome::Unfit => unreachable(),
     }
 }

@@ -8,7 +8,8 @@ use native.Mathlib.Decide.{decLt}
 use lib.IntN.{ℤ, pos, _+ℤ_, _-ℤ_}
 use lib.Signed.{_≤ℤ_, _<ℤ_}
 use Rattle.std.proofs.shelf.Signed.{ints}
-use Rattle.lags.specs.Ways.{Way, last, more, Ring, Solution}
+use Rattle.lags.specs.Ways.{Ring, Solution}
+use Rattle.lags.proofs.Ways.{ring-excludes}
 use Rattle.sheet.specs.Book.{Book, Visits, Stands, Next, Starts}
 use Rattle.plan.specs.Plans.{Lanes, Gaps, Leg, Timed, Keeps, Conflict, at-one-place, following, head-on, Good, Complete, Opposed}
 use Rattle.plan.specs.Lags.{Lag, travel, wait}
@@ -26,21 +27,6 @@ travel-up a b d h = omega (arith, ints)
 
 travel-down : (a b d : ℕ) → (pos a +ℤ pos d) ≤ℤ pos b → a + d ≤ b
 travel-down a b d h = omega (arith, ints)
-
--- the lags of a way add up, so a ring leaves no solution
-module _ (Between : ℕ → ℕ → ℤ → Type 0) (α : ℕ → ℕ) (kept : Solution Between α) where
-  along : (s t : ℕ) (l : List ℕ) (w : ℤ) → Way Between s l t w → (pos (α s) +ℤ w) ≤ℤ pos (α t)
-  along s t l w (last lag) = kept s t w lag
-  along s t l w (more {t = m} {l = rest} {w = x} {x = y} lag way) =
-      let one = kept s m x lag in
-      let others = along m t rest y way in
-      omega (arith, ints)
-
-  pub no-ring : (l : List ℕ) → Ring Between l → ⊥
-  no-ring l r =
-      let back = along (r .from) (r .from) l (r .sum) (r .round) in
-      let above = r .above in
-      omega (arith, ints)
 
 module _ (lanes : Lanes) (gap : Gaps) (b : Book) (positive : Positive lanes) (orderly : Orderly lanes b) where
   -- a good plan keeps every lag
@@ -160,7 +146,7 @@ module _ (lanes : Lanes) (gap : Gaps) (b : Book) (positive : Positive lanes) (or
     good-keeps = keeps-lags;
     kept-good = λ complete clear α zero kept. good α zero kept complete clear;
     opposed-none = no-plan;
-    ring-none = λ l ring α g. no-ring (Lag lanes gap b) α (keeps-lags α g) l ring;
+    ring-none = λ l ring α g. ring-excludes (Lag lanes gap b) α (keeps-lags α g) l ring;
   }
 
 pub lags-decide : Lags-decide
