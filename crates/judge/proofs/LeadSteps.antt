@@ -5,8 +5,9 @@ use mathlib.Core.List.{List}
 use mathlib.Core.Logic.{_⊎_, ⊎-elim}
 use Prim.Native.Nat.{ℕ, _+_, _*_, _<_}
 use native.Mathlib.Omega.{arith}
-use lib.ListN.{length, getD, set}
-use Rattle.std.proofs.shelf.Tests.{cases-eq}
+use lib.ListN.{length, getD, set, replicate}
+use Rattle.judge.proofs.Alike.{all-alike}
+use Rattle.std.proofs.shelf.Tests.{cases-eq, both-ways}
 use Rattle.std.proofs.shelf.Lists.{getD-set-same, getD-set-other}
 use Rattle.sheet.specs.declared.records.Precedence.{Precedence}
 use Rattle.sheet.specs.Tables.{no-precedence, PrecedencesInside}
@@ -30,3 +31,10 @@ leads-more ps n leads inside in-ps long old =
           (λ ne. let o = old .meant s c small (sym (getD-set-other leads at (s * 64 + c) true false ne) ∙ e) in (o .0, omega (arith, o .1), o .2, o .3))
           (cases-eq (s * 64 + c) at);
     }
+
+-- before the first precedence, where nothing is marked
+pub leads-none : (ps : List Precedence) (leads : List Bool) (n : ℕ) → leads ≡ replicate n false → Leads ps 0 leads
+leads-none ps leads n e = record {
+  marked = λ k h. absurd (omega arith);
+  meant = λ s c small h. absurd (both-ways (getD leads (s * 64 + c) false) (ap (λ xs. getD xs (s * 64 + c) false) e ∙ all-alike n (s * 64 + c) false) h);
+}

@@ -7,8 +7,8 @@ use native.Mathlib.Omega.{arith}
 use lib.ListN.{length, getD, set}
 use Rattle.std.specs.declared.option.Option.{Option}
 use Rattle.std.specs.declared.option.Option.the-variants.{Some, None}
-use Rattle.std.proofs.shelf.Tests.{cases-eq}
-use Rattle.std.proofs.shelf.Lists.{getD-set-same, getD-set-other}
+use Rattle.std.proofs.shelf.Tests.{cases-eq, cases-lt}
+use Rattle.std.proofs.shelf.Lists.{getD-set-same, getD-set-other, getD-past}
 use Rattle.sheet.specs.declared.records.Stop.{Stop}
 use Rattle.sheet.specs.Tables.{no-stop}
 use Rattle.judge.specs.Legs.{Previous, lane-between, Legs}
@@ -65,3 +65,11 @@ module _ (lanes : ℕ → ℕ → Option ℕ) (stops : List Stop) (n : ℕ) (tim
 
   pub legs-set : (times′ : List ℕ) (nexts′ : List (Option ℕ)) (p d : ℕ) → times′ ≡ set times n d → nexts′ ≡ set nexts p (Some n) → Previous lanes stops n p → Some d ≡ lane-between lanes stops p n → n < length times → p < length nexts → Legs lanes stops (n + 1) times′ nexts′
   legs-set times′ nexts′ p d e f comes lane in-times in-nexts = rw (e, f) (legs-more p d comes (sym lane) in-times in-nexts)
+
+-- before the first stop, where no next stop is known
+pub legs-none : (lanes : ℕ → ℕ → Option ℕ) (stops : List Stop) (times : List ℕ) (nexts : List (Option ℕ)) → ((s : ℕ) → s < length nexts → getD nexts s None ≡ None) → Legs lanes stops 0 times nexts
+legs-none lanes stops times nexts none = record {
+  timed = λ t p h. absurd (omega arith);
+  next = λ s t h. absurd (not-some t (sym h ∙ ⊎-elim (none s) (getD-past nexts s None) (cases-lt s (length nexts))));
+  some-next = λ t p h. absurd (omega arith);
+}

@@ -33,7 +33,7 @@ weight-most w g t m e h k = omega (arith, ints)
 
 module _ (gap : ℕ → ℕ → ℕ → ℕ) (largest : ℕ) (small : largest ≤ 100000) (bounded : (from to time : ℕ) → 1 ≤ time → time ≤ 36000 → gap from to time ≤ largest)
     (stops : List Stop) (times : List ℕ) (nexts : List (Option ℕ)) (ps : List Precedence)
-    (ready : Ready stops times nexts ps) (count : ℕ) (lags : List Lag) (room : count ≤ length lags) (listed : Lists (LagOf gap stops times nexts ps (length stops) (length ps)) count lags) where
+    (ready : Ready stops ps times nexts) (count : ℕ) (lags : List Lag) (room : count ≤ length lags) (listed : Lists (LagOf gap stops times nexts ps (length stops) (length ps)) count lags) where
   abbrev pub gathered : List Lag
   gathered = take (count - 0) lags
 
@@ -51,7 +51,7 @@ module _ (gap : ℕ → ℕ → ℕ → ℕ) (largest : ℕ) (small : largest �
   allowed-one : (g : Lag) → LagOf gap stops times nexts ps (length stops) (length ps) g → Allowed (length stops) g
   allowed-one g l = ⊎-elim
       (λ t.
-      let before = ready .linked (g .to) (g .from) (t .within) (t .step) in
+      let before = ready .consistent .linked (g .to) (g .from) (t .within) (t .step) in
       let time = ready .stepped (g .to) (g .from) (t .within) (t .step) in
       let within = t .within in
       let weighs = t .weighs in
@@ -62,7 +62,7 @@ module _ (gap : ℕ → ℕ → ℕ → ℕ) (largest : ℕ) (small : largest �
       let same = ready .each-next in
       let next = ready .inside _ _ (wait .from-next) in
       let time = ready .timely _ _ (wait .from-next) in
-      let here = ready .lawful k (w .1) in
+      let here = ready .consistent .lawful k (w .1) in
       let most = bounded (getD ps k no-precedence .place) (getD stops (g .from) no-stop .place) (getD times (g .from) 0) (time .0) (time .1) in
       ((omega arith, omega (arith, wait .to-second, here .3)),
       (weight-low (g .weight) _ _ (wait .weighs) (time .1), weight-most (g .weight) _ _ 100000 (wait .weighs) (time .0) (omega (arith, most)))))
@@ -70,7 +70,7 @@ module _ (gap : ℕ → ℕ → ℕ → ℕ) (largest : ℕ) (small : largest �
 
   pub fit : (n room′ : ℕ) → n ≡ length stops → count ≤ 3072 → length stops ≤ room′ → Fit gathered n room′
   fit n room′ e short wide = rw e (record {
-    few = ready .few;
+    few = ready .consistent .few;
     short = omega (arith, long);
     allowed = all-from-getD (Allowed (length stops)) gathered no-lag (λ k h. allowed-one (getD gathered k no-lag) (is-lag k h));
     wide = wide;
@@ -119,7 +119,7 @@ module _ (gap : ℕ → ℕ → ℕ → ℕ) (largest : ℕ) (small : largest �
   pub times-fit : (α : List ℕ) → Earliest gathered α → length α ≡ length stops → (i : ℕ) → getD α i 0 < 2 ^ 32
   times-fit α e n i =
       let c = e .ceiling 100000 (all-from-getD (λ g. g .weight ≤ℤ pos 100000) gathered no-lag (λ k h. allowed-one (getD gathered k no-lag) (is-lag k h) .1 .1)) i in
-      let few = ready .few in
+      let few = ready .consistent .few in
       omega (arith, c)
 
   pub ring-written : (p : Pages) (n k : ℕ) → Looped gathered n k (p .ring) (p .ring-after) → k ≤ length (p .ring-after) → p .timetable-after ≡ p .timetable → Ring-written (Between gap stops times nexts ps) (length stops) (max 36000 largest) p k

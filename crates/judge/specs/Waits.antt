@@ -9,7 +9,7 @@ use Rattle.std.specs.declared.option.Option.{Option}
 use Rattle.std.specs.declared.option.Option.the-variants.{Some, None}
 use Rattle.sheet.specs.declared.records.Precedence.{Precedence}
 use Rattle.sheet.specs.declared.records.Stop.{Stop}
-use Rattle.sheet.specs.Tables.{Linked, PrecedencesInside, no-precedence, no-stop}
+use Rattle.sheet.specs.Tables.{Linked, PrecedencesInside, StopsInside, no-precedence, no-stop}
 use Rattle.lags.specs.declared.Lag.{Lag}
 use Rattle.judge.specs.Legs.{NextsInside, Stepped, Timely}
 
@@ -38,15 +38,20 @@ pub record Lists (P : Lag → Type 0) (count : ℕ) (lags : List Lag) : Type 0 w
 abbrev pub LagOf : (ℕ → ℕ → ℕ → ℕ) → List Stop → List ℕ → List (Option ℕ) → List Precedence → ℕ → ℕ → Lag → Type 0
 LagOf gap stops times nexts precedences n m g = Travel stops times n g ⊎ ((k : ℕ) × (k < m) × Waiting gap stops times nexts (getD precedences k no-precedence) g)
 
--- the tables from which the lags are gathered fit together
-pub record Ready (stops : List Stop) (times : List ℕ) (nexts : List (Option ℕ)) (precedences : List Precedence) : Type 0 where
+-- the lists of a sheet fit together: each number in a record is that of a record, and the limits are kept
+pub record Consistent (stops : List Stop) (precedences : List Precedence) : Type 0 where
   pub few : length stops ≤ 1024
   pub few-precedences : length precedences ≤ 2048
+  pub linked : Linked stops
+  pub carried : StopsInside 64 stops
+  pub lawful : PrecedencesInside 64 (length stops) precedences
+
+-- and so do the tables that judging has made of them
+pub record Ready (stops : List Stop) (precedences : List Precedence) (times : List ℕ) (nexts : List (Option ℕ)) : Type 0 where
+  pub consistent : Consistent stops precedences
   pub each-time : length times ≡ length stops
   pub each-next : length nexts ≡ length stops
-  pub linked : Linked stops
   pub inside : NextsInside nexts
-  pub lawful : PrecedencesInside 64 (length stops) precedences
   pub stepped : Stepped stops times
   pub timely : Timely times nexts
 

@@ -3,8 +3,14 @@ ghost use mathlib.Core.Path.{_≡_};
 ghost use mathlib.Core.List.{_++_};
 ghost use Prim.Native.Nat.{ℕ, max, _^_, _<_, _≤_};
 ghost use lib.ListN.{drop, getD, length};
+ghost use Rattle.judge.specs.Legs.{NextsInside};
 ghost use Rattle.judge.specs.Settling.{Settles};
-ghost use Rattle.judge.specs.Waits.{Between, Ready};
+ghost use Rattle.judge.specs.Waits.{Between, Consistent, Ready};
+use crate::legs::check_goals;
+use crate::legs::find_legs;
+use crate::meetings::check_head_on;
+use crate::meetings::check_meetings;
+use crate::meetings::mark_leads;
 use crate::refusal::JudgeRefusal;
 use crate::waits::gather_steps;
 use crate::waits::gather_waits;
@@ -13,7 +19,9 @@ use lags::Outcome;
 use lags::solve;
 use sheet::records::Precedence;
 use sheet::records::Stop;
+use sheet::sheets::Sheet;
 use yard::FollowingRule;
+use yard::Yard;
 
 // Writes the arrivals to the front of the timetable.
 fn write_timetable(arrivals: &[u64], timetable: &mut [u32])
@@ -36,7 +44,7 @@ fn settle<R: FollowingRule>(
     timetable: &mut [u32],
     ring: &mut [u16],
 ) -> Result<u16, JudgeRefusal>
-    requires ready { ⌜ Ready (now stops) (now times) (now nexts) (now precedences) ⌝ }
+    requires ready { ⌜ Ready (now stops) (now precedences) (now times) (now nexts) ⌝ }
     requires pages { ⌜ (length (now stops) ≤ length (now timetable)) × (length (now stops) ≤ length (now ring)) ⌝ }
     ensures { λ r. ⌜ Settles (Between (R·FollowingRule .gaps (now (rule .entry))) (now (stops .entry)) (now (times .entry)) (now (nexts .entry)) (now (precedences .entry))) (length (now (stops .entry))) (max 36000 (R·FollowingRule .largest)) (record { timetable = now (timetable .entry); ring = now (ring .entry); timetable-after = now (timetable .exit); ring-after = now (ring .exit) }) r ⌝ }
 {
@@ -57,4 +65,67 @@ fn settle<R: FollowingRule>(
         Outcome::Ring { length } => Err(JudgeRefusal::Ring { length }),
         Outcome::Unfit => unreachable(),
     }
+}
+
+// Refuses the lowest meeting without a precedence, then the lowest two stops that are set head on.
+fn check_precedences(
+    precedences: &[Precedence],
+    stops: &[Stop],
+    nexts: &[Option<u16>],
+) -> Result<(), JudgeRefusal>
+    requires { ⌜ Consistent (now stops) (now precedences) ⌝ ∗ ⌜ length (now nexts) ≡ length (now stops) ⌝ ∗ ⌜ NextsInside (now nexts) ⌝ }
+{
+    let mut leads = [false; 65536];
+    mark_leads(precedences, &mut leads);
+    check_meetings(stops, &leads)?;
+    check_head_on(precedences, stops, nexts, &leads)
+}
+
+// Judges routes that have all reached their goals, with tables to work in.
+fn judge_routes<Y: Yard, R: FollowingRule>(
+    yard: &Y,
+    rule: &R,
+    precedences: &[Precedence],
+    stops: &[Stop],
+    times: &mut [u16],
+    nexts: &mut [Option<u16>],
+    timetable: &mut [u32],
+    ring: &mut [u16],
+) -> Result<u16, JudgeRefusal>
+    requires sheet { ⌜ Consistent (now stops) (now precedences) ⌝ }
+    requires room { ⌜ (1024 ≤ length (now times)) × (1024 ≤ length (now nexts)) ⌝ }
+    requires pages { ⌜ (length (now stops) ≤ length (now timetable)) × (length (now stops) ≤ length (now ring)) ⌝ }
+{
+    let times = &mut times[0..stops.len()];
+    let nexts = &mut nexts[0..stops.len()];
+    find_legs(yard, stops, times, nexts)?;
+    check_precedences(precedences, stops, nexts)?;
+    settle(rule, precedences, stops, times, nexts, timetable, ring)
+}
+
+// Judges the sheet in the yard under the rule.
+pub fn judge<Y: Yard, R: FollowingRule>(
+    sheet: &Sheet,
+    yard: &Y,
+    rule: &R,
+    timetable: &mut [u32],
+    ring: &mut [u16],
+) -> Result<u16, JudgeRefusal> {
+    let stops = sheet.stops();
+    if timetable.len() < stops.len() || ring.len() < stops.len() {
+        return Err(JudgeRefusal::PageTooShort);
+    }
+    check_goals(sheet.carriers())?;
+    let mut times = [0; 1024];
+    let mut nexts = [None; 1024];
+    judge_routes(
+        yard,
+        rule,
+        sheet.precedences(),
+        stops,
+        &mut times,
+        &mut nexts,
+        timetable,
+        ring,
+    )
 }

@@ -49,6 +49,15 @@ pub(crate) fn next_of(nexts: &[Option<u16>], s: usize) -> Option<usize>
     }
 }
 
+// Forgets every next stop.
+fn clear(nexts: &mut [Option<u16>])
+    ensures { λ _. ⌜ ((s : ℕ) → s < length (now (nexts .exit)) → getD (now (nexts .exit)) s None ≡ None) ⌝ }
+{
+    for next in nexts.iter_mut() {
+        *next = None;
+    }
+}
+
 // Finds for each stop with a stop before it the travel time from there, and for each stop the next one of its route;
 // refuses the lowest stop that no lane leads to from the one before it.
 pub(crate) fn find_legs<Y: Yard>(
@@ -59,9 +68,9 @@ pub(crate) fn find_legs<Y: Yard>(
 ) -> Result<(), JudgeRefusal>
     requires sizes { ⌜ (length (now stops) ≤ 1024) × (length (now times) ≡ length (now stops)) × (length (now nexts) ≡ length (now stops)) ⌝ }
     requires linked { ⌜ Linked (now stops) ⌝ }
-    requires empty { ⌜ ((s : ℕ) → getD (now nexts) s None ≡ None) ⌝ }
     ensures { λ r. ⌜ ByOk r (λ _. Legs (Y·Yard .lanes (now (yard .entry))) (now (stops .entry)) (length (now (stops .entry))) (now (times .exit)) (now (nexts .exit))) (λ e. LegRefused (Y·Yard .lanes (now (yard .entry))) (now (stops .entry)) e) ⌝ }
 {
+    clear(nexts);
     for i in 0..stops.len() {
         if let Some(previous) = previous_of(stops, i) {
             let Some(time) = yard.travel_time(stops[previous].place, stops[i].place) else {

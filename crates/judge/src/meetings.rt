@@ -20,9 +20,10 @@ use sheet::records::Stop;
 
 // Marks in `leads`, which has 64 marks for each stop, before which carriers a stop's own carrier goes first at its place.
 pub(crate) fn mark_leads(precedences: &[Precedence], leads: &mut [bool])
-    requires { ⌜ PrecedencesInside 64 1024 (now precedences) ⌝ ∗ ⌜ length (now leads) ≡ 65536 ⌝ ∗ ⌜ ((i : ℕ) → getD (now leads) i false ≡ false) ⌝ }
+    requires { ⌜ PrecedencesInside 64 1024 (now precedences) ⌝ ∗ ⌜ length (now leads) ≡ 65536 ⌝ }
     ensures { λ _. ⌜ Leads (now (precedences .entry)) (length (now (precedences .entry))) (now (leads .exit)) ⌝ }
 {
+    leads.fill(false);
     for precedence in precedences {
         leads[precedence.first_stop as usize * 64 + precedence.second as usize] = true;
     }
