@@ -3,10 +3,10 @@ use mathlib.Core.Path.{_≡_, refl, sym, ap, _∙_}
 use mathlib.Core.Bool.{Bool, true, false, cond, not, _&&_}
 use mathlib.Core.Logic.{_⊎_, inl, inr, ⊎-elim}
 use mathlib.Core.List.{List}
-use Prim.Native.Nat.{ℕ, _+_, _*_, _/_, _%_, _≤_, _<_}
+use Prim.Native.Nat.{ℕ, _+_, _*_, _/_, _%_}
 use native.Mathlib.Omega.{arith}
 use lib.Dec.{eqb, ltb}
-use lib.ListN.{length, getD, take}
+use lib.ListN.{take}
 use Rattle.std.proofs.shelf.Lists.{getD-take}
 use Rattle.std.proofs.shelf.Tests.{cases-lt, le-ltb, both-ways}
 use Rattle.std.proofs.shelf.Ways.{decides-and, decides-or, decides-not, decides-eqb, decides-ltb}
@@ -14,8 +14,9 @@ use Rattle.std.specs.Orderings.{Decides}
 use Rattle.std.specs.declared.option.Option.{Option}
 use Rattle.std.specs.declared.option.Option.the-variants.{Some, None}
 use Rattle.grid_yard.specs.declared.plan.Plan.{Plan}
-use Rattle.grid_yard.specs.Cells.{bit, bit-of, row-of, column-of, Adjacent, InRow, InColumn, Open, Joined, LanesOf}
-use Rattle.grid_yard.specs.Times.{closed-cell, adjacent, in-row, in-column, open-cell, time-of}
+use Rattle.grid_yard.specs.Cells.{bit, bit-of, row-of, column-of, Adjacent, InRow, InColumn, Open, LanesOf}
+use Rattle.grid_yard.specs.Faults.{needed}
+use Rattle.grid_yard.specs.Times.{adjacent, in-row, in-column, open-cell, time-of}
 
 -- what a choice between two travel times answers
 abbrev choice : ℕ → ℕ → Bool → Bool → Bool → Option ℕ
@@ -53,22 +54,21 @@ module _ (g : Plan) where
     is-open c = decides-and _ _ (decides-ltb c (g .rows * g .columns)) (decides-not _ (decides-eqb (bit-of words c) 1))
 
     -- the computed travel times are the lanes
-    pub lanes-exact : LanesOf g words (time-of g words)
+    lanes-exact : LanesOf g words (time-of g words)
     lanes-exact a b time =
         let both = decides-and _ _ (is-open a) (is-open b) in
         let p = chosen (g .along) (g .across) time (apart a b) (open-cell g words a && open-cell g words b) (in-row g a b) (in-column g a b) both (is-in-row a b) (is-in-column a b) in
         (λ e. let h = p .0 e in (h .0 .0, h .0 .1, h .1), λ h. p .1 ((h .0, h .1), h .2))
 
     -- words past those that the cells need tell nothing
-    module _ (n : ℕ) (covered : g .rows * g .columns ≤ 64 * n) where
-      open-kept : (c : ℕ) → open-cell g (take n words) c ≡ open-cell g words c
-      open-kept c =
-          ⊎-elim
-          (λ h. ap (λ w. ltb c (g .rows * g .columns) && not (eqb (bit w (c % 64)) 1)) (getD-take n words (c / 64) 0 (omega arith)))
-          (λ h. let off = le-ltb c (g .rows * g .columns) h in cc)
-          (cases-lt c (g .rows * g .columns))
+    open-kept : (c : ℕ) → open-cell g (take (needed g) words) c ≡ open-cell g words c
+    open-kept c =
+        ⊎-elim
+        (λ h. ap (λ w. ltb c (g .rows * g .columns) && not (eqb (bit w (c % 64)) 1)) (getD-take (needed g) words (c / 64) 0 (omega arith)))
+        (λ h. let off = le-ltb c (g .rows * g .columns) h in cc)
+        (cases-lt c (g .rows * g .columns))
 
-      pub lanes-kept : (kept : List ℕ) → kept ≡ take n words → LanesOf g words (time-of g kept)
-      lanes-kept kept e a b time =
-          let same : time-of g kept a b ≡ time-of g words a b = ap (λ ws. time-of g ws a b) e ∙ cc (open-kept a, open-kept b) in
-          rw same (lanes-exact a b time)
+    pub set-out : (plan : Plan) (kept : List ℕ) → plan ≡ g → kept ≡ take (needed g) words → LanesOf g words (time-of plan kept)
+    set-out plan kept p e a b time =
+        let same : time-of plan kept a b ≡ time-of g words a b = ap (λ h. time-of h kept a b) p ∙ (ap (λ ws. time-of g ws a b) e ∙ cc (open-kept a, open-kept b)) in
+        rw same (lanes-exact a b time)

@@ -1,6 +1,6 @@
 -- Which refusal a grid gets.
 use mathlib.Core.List.{List}
-use Prim.Native.Nat.{ℕ, _*_, _≤_, _<_}
+use Prim.Native.Nat.{ℕ, _+_, _*_, _/_, _≤_}
 use lib.ListN.{length}
 use Rattle.grid_yard.specs.declared.refusal.GridRefusal.{GridRefusal}
 use Rattle.grid_yard.specs.declared.refusal.GridRefusal.the-variants.{BadSize, BadTime, TooFewWords}
@@ -14,9 +14,13 @@ Sized g = (1 ≤ g .rows) × (g .rows ≤ 64) × (1 ≤ g .columns) × (g .colum
 abbrev pub Timed : Plan → Type 0
 Timed g = (1 ≤ g .along) × (g .along ≤ 36000) × (1 ≤ g .across) × (g .across ≤ 36000)
 
--- each cell has its bit
+-- how many words the cells need: one for each 64 of them or part of them
+abbrev pub needed : Plan → ℕ
+needed g = (g .rows * g .columns + 63) / 64
+
+-- there are as many
 abbrev pub Covered : Plan → List ℕ → Type 0
-Covered g words = g .rows * g .columns ≤ 64 * length words
+Covered g words = needed g ≤ length words
 
 -- the first of the checks that fails
 abbrev pub Fault : Plan → List ℕ → GridRefusal → Type 0

@@ -1,14 +1,15 @@
 // Which grids may be set out.
-ghost use Prim.Native.Nat.{_+_, _*_, _≤_};
+ghost use mathlib.Core.Path.{_≡_};
+ghost use Prim.Native.Nat.{_≤_};
 ghost use Rattle.std.specs.Results.{Cases as ByOk};
-ghost use Rattle.grid_yard.specs.Faults.{Fault, Lawful, Sized};
+ghost use Rattle.grid_yard.specs.Faults.{Fault, Lawful, Sized, needed};
 use crate::plan::Plan;
 use crate::refusal::GridRefusal;
 
 // How many words the cells need: one for each 64 of them or part of them.
 pub(crate) fn words_needed(plan: Plan) -> usize
     requires { ⌜ Sized plan ⌝ }
-    ensures { λ r. ⌜ (plan .rows * plan .columns ≤ 64 * r) × (64 * r ≤ plan .rows * plan .columns + 63) × (r ≤ 64) ⌝ }
+    ensures { λ r. ⌜ (r ≡ needed plan) × (r ≤ 64) ⌝ }
 {
     usize::from(plan.rows * plan.columns).div_ceil(64)
 }

@@ -1,6 +1,5 @@
 // Records that tell their key, and the one search by key that serves them all.
 ghost use mathlib.Core.Path.{_≡_};
-ghost use lib.ListN.{length};
 ghost use Rattle.std.specs.Options.{Cases as BySome};
 ghost use Rattle.std.specs.Orderings.{Decides};
 ghost use Rattle.keyed.specs.Search.{First, Nowhere};

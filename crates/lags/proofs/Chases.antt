@@ -14,9 +14,9 @@ use Rattle.std.proofs.shelf.Tests.{cases-eq, cases-lt}
 use Rattle.lags.specs.declared.Lag.{Lag}
 use Rattle.lags.specs.Solved.{at, Inside}
 use Rattle.lags.specs.Progress.{lag-at, no-lag, RaisedBy, Progress}
-use Rattle.lags.specs.Traced.{AtMost, Overrun, parent, Traced, Chased, Circle, Placed, Tracing}
+use Rattle.lags.specs.Traced.{Overrun, parent, Traced, Chased, Circle, Placed, Tracing}
 use Rattle.lags.proofs.Traces.{raised-ends, traced-none, traced-more, traced-round}
-use Rattle.lags.proofs.Marks.{at-most-below}
+use Rattle.lags.proofs.Marks.{ends-most, ends-below}
 
 -- places of no nodes, and of one more
 pub at-zeros : (n v : ℕ) → at (replicate n 0) v ≡ 0
@@ -55,48 +55,45 @@ unplaced xs places x q z = all-weaker (λ y. 0 < at places y) (λ y. y ≡ x →
 pub chased-none : (lags : List Lag) (p : ℕ → ℕ) (v : ℕ) → Overrun lags p v → Chased lags p v [] v
 chased-none lags p v o = record {
   over = o;
-  traced = traced-none lags p (o .a) (o .rounds .progress .when) v;
-  late =
-      let e : o .m + 1 - 1 ≡ o .m = omega arith in
-      let h : o .m * length lags < o .rounds .progress .when v = rw e at (o .rounds .moved (omega arith)) in
-      omega (arith, h);
+  traced = traced-none lags p (o .a) (o .progress .when) v;
+  late = omega (arith, o .moved);
 }
 
 module _ (lags : List Lag) (p : ℕ → ℕ) (v : ℕ) (xs : List ℕ) (x : ℕ) (c : Chased lags p v xs x) where
-  was-raised : 0 < c .over .rounds .progress .when x
+  was-raised : 0 < c .over .progress .when x
   was-raised =
-      let e = raised-ends lags p (c .over .a) (c .over .rounds .progress .when) xs (c .traced .raised) in
-      omega (arith, c .late, mul-le-mul-right (length lags) (c .over .most xs e (c .traced .distinct)))
+      let e = raised-ends lags p (c .over .a) (c .over .progress .when) xs (c .traced .raised) in
+      omega (arith, c .late, mul-le-mul-right (length lags) (ends-most lags (c .over .m) (c .over .ends) xs e (c .traced .distinct)))
 
   pub chased-named : p x < length lags
-  chased-named = c .over .rounds .progress .named x was-raised
+  chased-named = c .over .progress .named x was-raised
 
   module _ (places : List ℕ) (q : Placed xs places) where
     pub chased-more : at places x ≡ 0 → Chased lags p v (xs ++ x ∷ []) (parent lags p x .from)
     chased-more z =
-        let r : RaisedBy (c .over .a) (c .over .rounds .progress .when) (length lags) x (parent lags p x) = c .over .rounds .progress .parent x was-raised in
+        let r : RaisedBy (c .over .a) (c .over .progress .when) (length lags) x (parent lags p x) = c .over .progress .parent x was-raised in
         record {
           over = c .over;
-          traced = traced-more lags p (c .over .a) (c .over .rounds .progress .when) v xs x (c .traced) chased-named r (unplaced xs places x q z);
+          traced = traced-more lags p (c .over .a) (c .over .progress .when) v xs x (c .traced) (record { named = chased-named; raised = r }) (unplaced xs places x q z);
           late = rw (length-push xs x)
-              (⊎-elim (λ h. omega (arith, c .late, r .since h)) (λ h. omega (arith, c .late)) (cases-lt (length lags) (c .over .rounds .progress .when x)));
+              (⊎-elim (λ h. omega (arith, c .late, r .since h)) (λ h. omega (arith, c .late)) (cases-lt (length lags) (c .over .progress .when x)));
         }
 
     -- there is room for one more node
     pub chased-room : at places x ≡ 0 → (n : ℕ) → All (Inside n) lags → length xs < n
     chased-room z n a =
         let d = chased-more z in
-        let e = raised-ends lags p (d .over .a) (d .over .rounds .progress .when) (xs ++ x ∷ []) (d .traced .raised) in
-        omega (arith, at-most-below lags n (all-weaker (Inside n) (λ g. g .to < n) (λ g h. h .1) lags a) (xs ++ x ∷ []) e (d .traced .distinct), length-push xs x)
+        let e = raised-ends lags p (d .over .a) (d .over .progress .when) (xs ++ x ∷ []) (d .traced .raised) in
+        omega (arith, ends-below lags n (all-weaker (Inside n) (λ g. g .to < n) (λ g h. h .1) lags a) (xs ++ x ∷ []) e (d .traced .distinct), length-push xs x)
 
     pub chased-round : 0 < at places x → Circle lags p (drop (at places x - 1) xs)
     chased-round h =
         let l : at places x - 1 < length xs = omega (arith, q .stands x h .0) in
         record {
           a = c .over .a;
-          when = c .over .rounds .progress .when;
+          when = c .over .progress .when;
           node = x;
-          traced = traced-round lags p (c .over .a) (c .over .rounds .progress .when) v xs x (at places x - 1) (c .traced) l (q .stands x h .1);
+          traced = traced-round lags p (c .over .a) (c .over .progress .when) v xs x (at places x - 1) (c .traced) l (q .stands x h .1);
           some = omega (arith, length-drop (at places x - 1) xs);
         }
 

@@ -8,8 +8,7 @@ use Rattle.std.specs.shelf.Lists.{All}
 use Rattle.std.proofs.shelf.Elements.{all-weaker}
 use Rattle.lags.specs.declared.Lag.{Lag}
 use Rattle.lags.specs.Solved.{at, Inside, Allowed, Fit}
-use Rattle.lags.specs.Progress.{Low, Rounds}
-use Rattle.lags.specs.Traced.{AtMost, Overrun}
+use Rattle.lags.specs.Progress.{Low}
 use Rattle.lags.proofs.Chases.{at-zeros}
 
 module _ (lags : List Lag) (nodes room : ℕ) (fit : Fit lags nodes room) where
@@ -24,6 +23,3 @@ module _ (lags : List Lag) (nodes room : ℕ) (fit : Fit lags nodes room) where
 
 pub zeros-low : (n : ℕ) (α : List ℕ) → α ≡ replicate n 0 → Low α 0
 zeros-low n α e v = omega (arith, at-zeros n v, ap (λ (xs : List ℕ). at xs v) e)
-
-pub overrun : (lags : List Lag) (m : ℕ) (a p : ℕ → ℕ) (v : ℕ) → AtMost lags m → Rounds lags (m + 1) a p v → Overrun lags p v
-overrun lags m a p v h r = record { m = m; a = a; most = h; rounds = r }

@@ -1,10 +1,12 @@
+pub mod Times
 pub mod Ways
 pub mod Pigeons
 pub mod Raises
 pub mod InRounds
-pub mod Traces
 pub mod Marks
+pub mod Traces
 pub mod Ceilings
+pub mod Settles
 pub mod Chases
 pub mod Turns
 pub mod Reversals

@@ -72,9 +72,9 @@ module _ (xs : List ℕ) (a : ℕ) (in′ : a < length xs) where
       after-second =
           let f : take (a + 1) page₂ ≡ reverse (take (a + 1) xs) = ap (take (a + 1)) after-first ∙ take-at (reverse (take (a + 1) xs)) (drop (a + 1) xs ++ drop (length xs) page) (a + 1) front-long in
           let s : s₃ ≡ reverse (drop (a + 1) xs) =
-              e₃ ∙ ap (λ (l : List ℕ). reverse (take (length xs - (a + 1)) l)) rest ∙ ap reverse (take-at (drop (a + 1) xs) (drop (length xs) page) (length xs - (a + 1)) rest-long) in
+          e₃ ∙ ap (λ (l : List ℕ). reverse (take (length xs - (a + 1)) l)) rest ∙ ap reverse (take-at (drop (a + 1) xs) (drop (length xs) page) (length xs - (a + 1)) rest-long) in
           let t : drop (length xs - (a + 1)) (drop (a + 1) page₂) ≡ drop (length xs) page =
-              ap (drop (length xs - (a + 1))) rest ∙ drop-at (drop (a + 1) xs) (drop (length xs) page) (length xs - (a + 1)) rest-long in
+          ap (drop (length xs - (a + 1))) rest ∙ drop-at (drop (a + 1) xs) (drop (length xs) page) (length xs - (a + 1)) rest-long in
           rw (f, s, t) (sym (append-assoc (reverse (take (a + 1) xs)) (reverse (drop (a + 1) xs)) (drop (length xs) page)))
 
       pub turned : All (λ x. at xs a ≤ x) xs → Turned xs (take (length xs) page₃)

@@ -17,10 +17,10 @@ use Rattle.lags.specs.declared.Lag.{Lag}
 use Rattle.lags.specs.Ways.{Way, Ring}
 use Rattle.lags.specs.Ways.Way.{last, more}
 use Rattle.lags.specs.Solved.{Listed, Inside, Looped}
-use Rattle.lags.specs.Progress.{no-lag, RaisedBy}
-use Rattle.lags.specs.Traced.{Distinct, parent, Back, weights, Raised, Traced, Circle, Turned}
+use Rattle.lags.specs.Progress.{no-lag}
+use Rattle.lags.specs.Traced.{Distinct, parent, Back, weights, ByParent, Circle, Turned}
 use Rattle.lags.proofs.Traces.{raised-ends, round-above, distinct-push}
-use Rattle.lags.proofs.Marks.{at-most-below}
+use Rattle.lags.proofs.Marks.{ends-below}
 use Rattle.lags.proofs.Ways.{ring-excludes}
 
 -- what holds of each element of two lists
@@ -76,15 +76,12 @@ module _ (lags : List Lag) (p : ℕ → ℕ) where
   back-append v u w (x ∷ xs) ys b d = (b .0, back-append (parent lags p x .from) u w xs ys (b .1) d)
 
   module _ (a when : ℕ → ℕ) where
-    abbrev ByParent : ℕ → Type 0
-    ByParent y = (p y < length lags) × RaisedBy a when (length lags) y (parent lags p y)
-
-    lag-to : (y : ℕ) → ByParent y → Listed lags (parent lags p y .from) y (parent lags p y .weight)
-    lag-to y r = subst (λ t. Listed lags (parent lags p y .from) t (parent lags p y .weight)) (r .1 .ends) (has-getD lags (p y) no-lag (r .0))
+    lag-to : (y : ℕ) → ByParent lags p a when y → Listed lags (parent lags p y .from) y (parent lags p y .weight)
+    lag-to y r = subst (λ t. Listed lags (parent lags p y .from) t (parent lags p y .weight)) (r .raised .ends) (has-getD lags (p y) no-lag (r .named))
 
     -- a way from y, and before it the way back from y read forward
-    forward : (y u : ℕ) (xs l : List ℕ) (t : ℕ) (w : ℤ) → Back lags p y xs u → Raised lags p a when xs → Way (Listed lags) y (y ∷ l) t w
-        → (s : ℤ) × Way (Listed lags) u (u ∷ reverse xs ++ l) t s × (s ≡ (w +ℤ weights lags p xs))
+    forward : (y u : ℕ) (xs l : List ℕ) (t : ℕ) (w : ℤ) → Back lags p y xs u → All (ByParent lags p a when) xs → Way (Listed lags) y (y ∷ l) t w
+        → (s : ℤ) × Way (Listed lags) u (u ∷ reverse xs ++ l) t s × (s ≡ (weights lags p xs +ℤ w))
     forward y u [] l t w b r h = (w, rw (← b) h, omega (arith, ints))
     forward y u (x ∷ xs) l t w b r h =
         let g : Way (Listed lags) (parent lags p x .from) (parent lags p x .from ∷ x ∷ l) t (parent lags p x .weight +ℤ w) = more (lag-to x (r .0)) (rw (← (b .0)) at h) in
@@ -112,9 +109,9 @@ module _ (lags : List Lag) (p : ℕ → ℕ) where
 
     turned-ring : Ring (Listed lags) (t .low ∷ reverse (t .rest ++ t .front))
     turned-ring =
-        let r = turned-all (ByParent (c .a) (c .when)) (c .traced .raised) in
+        let r = turned-all (ByParent lags p (c .a) (c .when)) (c .traced .raised) in
         let f = forward (c .a) (c .when) (parent lags p (t .low) .from) (t .low) (t .rest ++ t .front) [] (t .low) (parent lags p (t .low) .weight) (turned-way .1) (r .1)
-            (last (lag-to (c .a) (c .when) (t .low) (r .0))) in
+        (last (lag-to (c .a) (c .when) (t .low) (r .0))) in
         let g = round-above lags p (c .a) (c .when) (t .low) (t .low ∷ t .rest ++ t .front) (omega arith) turned-way r in
         record {
           from = t .low;
@@ -130,7 +127,7 @@ module _ (lags : List Lag) (p : ℕ → ℕ) where
 
   pub circle-short : (xs : List ℕ) → Circle lags p xs → (n : ℕ) → All (Inside n) lags → length xs ≤ n
   circle-short xs c n h =
-      at-most-below lags n (all-weaker (Inside n) (λ g. g .to < n) (λ g b. b .1) lags h) xs (raised-ends lags p (c .a) (c .when) xs (c .traced .raised)) (c .traced .distinct)
+      ends-below lags n (all-weaker (Inside n) (λ g. g .to < n) (λ g b. b .1) lags h) xs (raised-ends lags p (c .a) (c .when) xs (c .traced .raised)) (c .traced .distinct)
 
   -- a ring on the front of a page
   pub looped : (xs before after : List ℕ) (k : ℕ) → Circle lags p xs → length xs ≡ k → Turned xs (take (length xs) after) → drop (length xs) after ≡ drop (length xs) before

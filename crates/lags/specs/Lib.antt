@@ -1,4 +1,5 @@
 pub mod Ways
 pub mod Solved
+pub mod Times
 pub mod Progress
 pub mod Traced

@@ -1,13 +1,15 @@
 -- The way back from a node that was raised, along what raised what.
 use mathlib.Core.Path.{_≡_}
+use mathlib.Core.Bool.{Bool, false}
 use mathlib.Core.List.{List, [], _∷_, _++_, reverse}
 use Prim.Native.Nat.{ℕ, _+_, _-_, _*_, _≤_, _<_}
 use lib.IntN.{ℤ, pos, _+ℤ_}
-use lib.ListN.{length, take}
-use Rattle.std.specs.shelf.Lists.{All, Has}
+use lib.ListN.{length, getD, take}
+use Rattle.std.specs.Orderings.{Decides}
+use Rattle.std.specs.shelf.Lists.{All, Has, countBy}
 use Rattle.lags.specs.declared.Lag.{Lag}
 use Rattle.lags.specs.Solved.{at}
-use Rattle.lags.specs.Progress.{lag-at, RaisedBy, Progress, Rounds}
+use Rattle.lags.specs.Progress.{lag-at, RaisedBy, Progress}
 
 abbrev pub Distinct : List ℕ → Type 0
 Distinct [] = Unit {0}
@@ -17,16 +19,25 @@ Distinct (x ∷ xs) = All (λ y. x ≡ y → ⊥) xs × Distinct xs
 abbrev pub End : List Lag → ℕ → Type 0
 End lags v = (g : Lag) × Has lags g × (g .to ≡ v)
 
--- at most m nodes are where lags end
-abbrev pub AtMost : List Lag → ℕ → Type 0
-AtMost lags m = (xs : List ℕ) → All (End lags) xs → Distinct xs → length xs ≤ m
+-- the lags end at m nodes: as many as there are marks, and the marked nodes are the ends
+pub record EndCount (lags : List Lag) (m : ℕ) : Type 0 where
+  pub marks : List Bool
+  pub marked : (v : ℕ) → Decides (getD marks v false) (End lags v)
+  pub many : m ≡ countBy (λ b. b) marks
 
--- more rounds raised something than there are nodes to raise, and the last of them raised v last
+-- the first i lags end at n nodes, which are marked
+pub record Marking (lags : List Lag) (i : ℕ) (marks : List Bool) (n : ℕ) : Type 0 where
+  pub marked : (v : ℕ) → Decides (getD marks v false) (End (take i lags) v)
+  pub many : n ≡ countBy (λ b. b) marks
+  pub size : length marks ≡ 1024
+
+-- one more round than the lags end at nodes was made, each raised something, and the last of them raised v last
 pub record Overrun (lags : List Lag) (p : ℕ → ℕ) (v : ℕ) : Type 0 where
   pub m : ℕ
   pub a : ℕ → ℕ
-  pub most : AtMost lags m
-  pub rounds : Rounds lags (m + 1) a p v
+  pub ends : EndCount lags m
+  pub progress : Progress lags (m * length lags + length lags) 0 a p
+  pub moved : m * length lags < progress .when v
 
 module _ (lags : List Lag) (p : ℕ → ℕ) where
   -- the lag that raised y last
@@ -41,23 +52,24 @@ module _ (lags : List Lag) (p : ℕ → ℕ) where
   -- the sum of the lags that raised the nodes
   abbrev pub weights : List ℕ → ℤ
   weights [] = pos 0
-  weights (y ∷ ys) = parent y .weight +ℤ weights ys
+  weights (y ∷ ys) = weights ys +ℤ parent y .weight
 
-  -- each node was raised, by its parent
-  abbrev pub Raised : (a when : ℕ → ℕ) → List ℕ → Type 0
-  Raised a when xs = All (λ y. (p y < length lags) × RaisedBy a when (length lags) y (parent y)) xs
+  -- y was raised, last by its parent, which is one of the lags
+  pub record ByParent (a when : ℕ → ℕ) (y : ℕ) : Type 0 where
+    pub named : p y < length lags
+    pub raised : RaisedBy a when (length lags) y (parent y)
 
   -- the way back from v, through distinct nodes that were raised
   pub record Traced (a when : ℕ → ℕ) (v : ℕ) (xs : List ℕ) (u : ℕ) : Type 0 where
     pub way : Back v xs u
-    pub raised : Raised a when xs
+    pub raised : All (ByParent a when) xs
     pub distinct : Distinct xs
 
   -- the way back after an overrun, short enough that u was raised too
   pub record Chased (v : ℕ) (xs : List ℕ) (u : ℕ) : Type 0 where
     pub over : Overrun lags p v
-    pub traced : Traced (over .a) (over .rounds .progress .when) v xs u
-    pub late : over .m * length lags < over .rounds .progress .when u + length xs * length lags
+    pub traced : Traced (over .a) (over .progress .when) v xs u
+    pub late : over .m * length lags < over .progress .when u + length xs * length lags
 
   -- a way back to where it began, of at least one node
   pub record Circle (xs : List ℕ) : Type 0 where

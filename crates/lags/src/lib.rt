@@ -39,8 +39,7 @@ pub fn solve(lags: &[Lag], arrivals: &mut [u64], ring: &mut [u16]) -> Outcome
     }
     arrivals.fill(0);
     let mut parents = [0u16; 1024];
-    let rounds = count_ends(lags) + 1;
-    match settle(lags, rounds, arrivals, &mut parents) {
+    match settle(lags, count_ends(lags), arrivals, &mut parents) {
         None => Outcome::Settled,
         Some(node) => Outcome::Ring {
             length: write_ring(lags, &parents, node, ring),

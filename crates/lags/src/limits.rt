@@ -18,8 +18,8 @@ fn is_allowed(nodes: usize, lag: Lag) -> bool
 fn are_allowed(nodes: usize, lags: &[Lag]) -> bool
     ensures { λ r. ⌜ Decides r (All (Allowed nodes) (now (lags .entry))) ⌝ }
 {
-    for i in 0..lags.len() {
-        if !is_allowed(nodes, lags[i]) {
+    for lag in lags {
+        if !is_allowed(nodes, *lag) {
             return false;
         }
     }

@@ -3,19 +3,18 @@ ghost use mathlib.Core.Path.{_≡_};
 ghost use mathlib.Core.List.{reverse, _++_};
 ghost use Prim.Native.Nat.{ℕ, _+_, _-_, _<_, _≤_};
 ghost use lib.ListN.{length, getD, take, drop};
-ghost use Rattle.std.specs.shelf.Lists.{All, between};
+ghost use Rattle.std.specs.shelf.Lists.{All};
 ghost use Rattle.lags.specs.Solved.{Inside, Looped, at};
 ghost use Rattle.lags.specs.Traced.{Circle, Overrun, Turned};
 use crate::Lag;
 
-// Goes back from `start`, from each node to the one that raised it, until a node comes up again.
-// Writes the nodes in this order, and gives where the node that came up again stands and how many they are.
-fn trace_back(lags: &[Lag], parents: &[u16], start: u16, nodes: &mut [u16]) -> (usize, usize)
+// Goes back from `start`, from each node to the one that raised it last, until a node comes up again.
+// Gives the nodes from the first time that it came up, in this order.
+fn trace_back<'a>(lags: &[Lag], parents: &[u16], start: u16, nodes: &'a mut [u16]) -> &'a [u16]
     requires inside { ⌜ All (Inside (length (now parents))) (now lags) ⌝ ∗ ⌜ start < length (now parents) ⌝ }
     requires room { ⌜ length (now parents) ≤ 1024 ⌝ ∗ ⌜ length (now parents) ≤ length (now nodes) ⌝ }
     requires over { ⌜ Overrun (now lags) (at (now parents)) start ⌝ }
-    ensures within { λ r. ⌜ r .0 < r .1 ⌝ ∗ ⌜ r .1 ≤ length (now (parents .entry)) ⌝ }
-    ensures round { λ r. ⌜ Circle (now (lags .entry)) (at (now (parents .entry))) (between (r .0) (r .1) (now (nodes .exit))) ⌝ }
+    ensures { λ r. ⌜ Circle (now (lags .entry)) (at (now (parents .entry))) (now r) ⌝ }
 {
     let mut places = [0u16; 1024];
     let mut len = 0;
@@ -26,7 +25,8 @@ fn trace_back(lags: &[Lag], parents: &[u16], start: u16, nodes: &mut [u16]) -> (
         places[node as usize] = len as u16;
         node = lags[parents[node as usize] as usize].from;
     }
-    (places[node as usize] as usize - 1, len)
+    let first = places[node as usize] as usize - 1;
+    &nodes[first..len]
 }
 
 // Where the lowest number stands.
@@ -36,8 +36,8 @@ fn lowest(nodes: &[u16]) -> usize
     ensures least { λ r. ⌜ All (λ x. at (now (nodes .entry)) r ≤ x) (now (nodes .entry)) ⌝ }
 {
     let mut low = 0;
-    for i in 0..nodes.len() {
-        if nodes[i] < nodes[low] {
+    for (i, node) in nodes.iter().enumerate() {
+        if *node < nodes[low] {
             low = i;
         }
     }
@@ -64,7 +64,7 @@ pub(crate) fn write_ring(lags: &[Lag], parents: &[u16], start: u16, ring: &mut [
     ensures { λ r. ⌜ ((n : ℕ) → All (Inside n) (now (lags .entry)) → Looped (now (lags .entry)) n r (now (ring .entry)) (now (ring .exit))) ⌝ }
 {
     let mut nodes = [0u16; 1024];
-    let (first, len) = trace_back(lags, parents, start, &mut nodes);
-    turn(&nodes[first..len], ring);
-    (len - first) as u16
+    let circle = trace_back(lags, parents, start, &mut nodes);
+    turn(circle, ring);
+    circle.len() as u16
 }

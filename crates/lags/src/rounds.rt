@@ -9,8 +9,10 @@ ghost use Rattle.std.specs.Options.{Cases as BySome};
 ghost use Rattle.std.specs.Slices.{found};
 ghost use Rattle.std.specs.declared.option.Option.the-variants.{None};
 ghost use Rattle.std.specs.shelf.Lists.{All};
-ghost use Rattle.lags.specs.Progress.{Keeps, Low, Moved, Progress, Rounds, after};
+ghost use Rattle.lags.specs.Progress.{Keeps, Low, Moved, Progress};
 ghost use Rattle.lags.specs.Solved.{Allowed, Earliest, Inside, at};
+ghost use Rattle.lags.specs.Times.{after};
+ghost use Rattle.lags.specs.Traced.{EndCount, Overrun};
 use crate::Lag;
 
 // Raises the arrival where the lag ends, if the lag calls for it, notes the lag's number as what raised it, and says whether it did.
@@ -36,37 +38,34 @@ fn raise_round(lags: &[Lag], arrivals: &mut [u64], parents: &mut [u16]) -> Optio
     requires short { ⌜ length (now lags) ≤ 3072 ⌝ }
     requires low { ⌜ Low (now arrivals) (2 ^ 59) ⌝ }
     ensures progress { λ r. ⌜ ((base : ℕ) → Progress (now (lags .entry)) base 0 (at (now (arrivals .entry))) (at (now (parents .entry))) → Moved (now (lags .entry)) (base + length (now (lags .entry))) 0 (at (now (arrivals .exit))) (at (now (parents .exit))) base r) ⌝ }
-    ensures quiet { λ r. ⌜ (r ≡ None → (now (arrivals .exit) ≡ now (arrivals .entry)) × Keeps (now (lags .entry)) (at (now (arrivals .exit)))) ⌝ }
+    ensures quiet { λ r. ⌜ (r ≡ None → Keeps (now (lags .entry)) (at (now (arrivals .exit)))) ⌝ }
     ensures within { λ r. ⌜ found r (λ v. v < length (now (arrivals .entry))) ⌝ }
 {
     let mut raised = None;
-    for i in 0..lags.len() {
-        let lag = lags[i];
-        if raise(lag, i as u16, arrivals, parents) {
+    for (i, lag) in lags.iter().enumerate() {
+        if raise(*lag, i as u16, arrivals, parents) {
             raised = Some(lag.to);
         }
     }
     raised
 }
 
-// Makes rounds from arrivals that are all 0 until one raises nothing, but no more than `rounds`: then it gives the node that the last of them raised last.
+// Makes rounds from arrivals that are all 0 until one raises nothing, but at most one more than lags end at nodes.
+// Gives the node that the last of them raised last, if it raised any.
 pub(crate) fn settle(
     lags: &[Lag],
-    rounds: u32,
+    ends: u16,
     arrivals: &mut [u64],
     parents: &mut [u16],
 ) -> Option<u16>
     requires allowed { ⌜ All (Allowed (length (now arrivals))) (now lags) ⌝ ∗ ⌜ length (now arrivals) ≤ length (now parents) ⌝ }
-    requires short { ⌜ length (now lags) ≤ 3072 ⌝ ∗ ⌜ 0 < rounds ⌝ ∗ ⌜ rounds ≤ 1025 ⌝ }
+    requires short { ⌜ length (now lags) ≤ 3072 ⌝ }
+    requires ends { ⌜ EndCount (now lags) ends ⌝ ∗ ⌜ ends ≤ 1024 ⌝ }
     requires zero { ⌜ Low (now arrivals) 0 ⌝ }
-    ensures { λ r. ⌜ BySome r (Earliest (now (lags .entry)) (now (arrivals .exit))) (λ v. Rounds (now (lags .entry)) rounds (at (now (arrivals .exit))) (at (now (parents .exit))) v × (v < length (now (arrivals .entry)))) ⌝ }
+    ensures { λ r. ⌜ BySome r (Earliest (now (lags .entry)) (now (arrivals .exit))) (λ v. Overrun (now (lags .entry)) (at (now (parents .exit))) v × (v < length (now (arrivals .entry)))) ⌝ }
 {
-    let mut last = 0;
-    for k in 0..rounds {
-        match raise_round(lags, arrivals, parents) {
-            None => return None,
-            Some(node) => last = node,
-        }
+    for k in 0..ends {
+        raise_round(lags, arrivals, parents)?;
     }
-    Some(last)
+    raise_round(lags, arrivals, parents)
 }

@@ -1,15 +1,15 @@
 -- The lanes of a rising list are its records.
-use mathlib.Core.Path.{_≡_, refl, sym, ap, _∙_}
-use mathlib.Core.Bool.{Bool, true, false, cond, _&&_}
+use mathlib.Core.Path.{_≡_, sym, ap, _∙_}
+use mathlib.Core.Bool.{Bool, cond}
 use mathlib.Core.Logic.{_⊎_, ⊎-elim}
 use mathlib.Core.List.{List, [], _∷_}
 use Prim.Native.Nat.{ℕ, suc}
 use native.Mathlib.Omega.{arith}
 use Rattle.std.specs.shelf.Lists.{Has}
 use Rattle.std.specs.declared.option.Option.{Option}
-use Rattle.std.specs.declared.option.Option.the-variants.{Some, None}
+use Rattle.std.specs.declared.option.Option.the-variants.{Some}
 use Rattle.lane_yard.specs.declared.lane.Lane.{Lane}
-use Rattle.lane_yard.specs.Records.{lane, no-lane, time-of, Rising, LanesOf}
+use Rattle.lane_yard.specs.Records.{lane, no-lane, time-of, Rising, Tells, LanesOf}
 use Rattle.lane_yard.proofs.Times.{way}
 use Rattle.lane_yard.proofs.Rises.{only}
 
@@ -31,6 +31,7 @@ has-lane (l ∷ ls) f t z e =
     (way (l .from) (l .to) f t)
 
 pub lanes-listed : (xs : List Lane) → Rising xs → LanesOf xs (time-of xs)
+unfolding Tells
 lanes-listed xs r f t z = (
   has-lane xs f t z,
   λ h.

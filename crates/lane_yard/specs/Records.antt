@@ -32,9 +32,13 @@ lane from to time = record { from = from; to = to; time = time }
 abbrev pub no-lane : Lane
 no-lane = lane 0 0 0
 
+-- the answer tells of the lane between two places that stands in the list, or of none
+unfoldable pub Tells : List Lane → ℕ → ℕ → Option ℕ → Type 0
+Tells xs from to answer = (time : ℕ) → (answer ≡ Some time → Has xs (lane from to time)) × (Has xs (lane from to time) → answer ≡ Some time)
+
 -- these lanes are those of the list: each that stands in it, and no other
 abbrev pub LanesOf : List Lane → (ℕ → ℕ → Option ℕ) → Type 0
-LanesOf xs lanes = (from to time : ℕ) → (lanes from to ≡ Some time → Has xs (lane from to time)) × (Has xs (lane from to time) → lanes from to ≡ Some time)
+LanesOf xs lanes = (from to : ℕ) → Tells xs from to (lanes from to)
 
 -- each lane is within the limits
 abbrev pub AllWithin : List Lane → Type 0

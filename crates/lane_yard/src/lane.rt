@@ -1,5 +1,4 @@
 // A lane of a yard.
-ghost use mathlib.Core.Path.{_≡_};
 use keyed::Keyed;
 
 // A lane from a place to a different place, with its travel time in ticks.

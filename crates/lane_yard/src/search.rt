@@ -1,11 +1,14 @@
 // The search for a lane.
+ghost use mathlib.Core.Path.{_≡_};
 ghost use Prim.Native.Nat.{_+_, _≤_};
-ghost use Rattle.lane_yard.specs.Records.{Around, Rising};
+ghost use Rattle.lane_yard.specs.Records.{Around, Rising, Tells, time-of};
 use crate::checks::is_before;
 use crate::lane::Lane;
+use crate::lane::LaneByPlaces;
+use keyed::find;
 
 // A part of the records, `r.0` to `r.1`, at most eight of them, such that no other record leads from `from` to `to`.
-pub(crate) fn narrow(records: &[Lane], from: u16, to: u16) -> (usize, usize)
+fn narrow(records: &[Lane], from: u16, to: u16) -> (usize, usize)
     requires { ⌜ Rising (now records) ⌝ }
     ensures around { λ r. ⌜ Around (now (records .entry)) from to (r .0) (r .1) ⌝ }
     ensures short { λ r. ⌜ r .1 ≤ r .0 + 8 ⌝ }
@@ -22,4 +25,17 @@ pub(crate) fn narrow(records: &[Lane], from: u16, to: u16) -> (usize, usize)
         }
     }
     (low, high)
+}
+
+// The travel time of the record that leads from `from` to `to`, where there is one.
+pub(crate) fn time_between(records: &[Lane], from: u16, to: u16) -> Option<u16>
+    requires { ⌜ Rising (now records) ⌝ }
+    ensures value { λ r. ⌜ r ≡ time-of (now (records .entry)) from to ⌝ }
+    ensures listed { λ r. ⌜ Tells (now (records .entry)) from to r ⌝ }
+{
+    let (low, high) = narrow(records, from, to);
+    match find(&records[low..high], &(from, to)) {
+        Some(i) => Some(records[low + i].time),
+        None => None,
+    }
 }

@@ -1,3 +1,5 @@
 pub mod Hexadecimal
-pub mod Lent
+pub mod Placing
+pub mod Readings
+pub mod RoundTrip
 pub mod Writes

@@ -8,32 +8,32 @@ use Rattle.std.specs.declared.option.Option.the-variants.{Some, None}
 use Rattle.std.specs.Options.{isSome, valueOr}
 
 -- the digit of a value below 16: 0 to 9 and then the capital letters A to F
-abbrev pub digit : ℕ → ℕ
-digit v = cond (ltb v 10) (48 + v) (55 + v)
+abbrev pub digit-for : ℕ → ℕ
+digit-for v = cond (ltb v 10) (48 + v) (55 + v)
 
 -- the value of a digit; any other byte has none
-abbrev pub value : ℕ → Option ℕ
-value b = cond (leb 48 b && leb b 57) (Some (b - 48)) (cond (leb 65 b && leb b 70) (Some (b - 55)) None)
+abbrev pub value-of : ℕ → Option ℕ
+value-of b = cond (leb 48 b && leb b 57) (Some (b - 48)) (cond (leb 65 b && leb b 70) (Some (b - 55)) None)
 
 -- how many digits a line begins with, which is the column, from 0, of its first byte that is no digit
-abbrev pub column : List ℕ → ℕ
-column [] = 0
-column (b ∷ bs) = cond (isSome (value b)) (suc (column bs)) 0
+abbrev pub first-bad : List ℕ → ℕ
+first-bad [] = 0
+first-bad (b ∷ bs) = cond (isSome (value-of b)) (suc (first-bad bs)) 0
 
 -- two digits for each byte, the high digit first
 abbrev pub digits : List ℕ → List ℕ
 digits [] = []
-digits (b ∷ bs) = digit (b / 16) ∷ digit (b % 16) ∷ digits bs
+digits (b ∷ bs) = digit-for (b / 16) ∷ digit-for (b % 16) ∷ digits bs
 
 -- the byte of two digits
 abbrev pub byte : ℕ → ℕ → ℕ
-byte high low = valueOr (value high) 0 * 16 + valueOr (value low) 0
+byte high low = valueOr (value-of high) 0 * 16 + valueOr (value-of low) 0
 
 -- the bytes that a line of digits stands for
-abbrev pub bytes : List ℕ → List ℕ
-bytes [] = []
-bytes (b ∷ []) = []
-bytes (high ∷ low ∷ rest) = byte high low ∷ bytes rest
+abbrev pub line-bytes : List ℕ → List ℕ
+line-bytes [] = []
+line-bytes (b ∷ []) = []
+line-bytes (high ∷ low ∷ rest) = byte high low ∷ line-bytes rest
 
 -- a number in two bytes, the high byte first, and what follows
 abbrev pub two : ℕ → List ℕ → List ℕ

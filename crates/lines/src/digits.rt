@@ -8,12 +8,12 @@ ghost use lib.ListN.{length, take, drop};
 ghost use Rattle.std.specs.Options.{valueOr};
 ghost use Rattle.std.specs.declared.result.Result.the-variants.{Ok, Err};
 ghost use Rattle.lines.specs.declared.refusal.LineRefusal.the-variants.{BadDigit};
-ghost use Rattle.lines.specs.Digits.{digit, value, column, digits, bytes};
+ghost use Rattle.lines.specs.Digits.{digit-for, value-of, first-bad, digits, line-bytes};
 use crate::refusal::LineRefusal;
 
 // The value of a digit; any other byte has none.
 fn digit_value(byte: u8) -> Option<u8>
-    ensures { λ r. ⌜ r ≡ value byte ⌝ }
+    ensures { λ r. ⌜ r ≡ value-of byte ⌝ }
 {
     match byte {
         b'0'..=b'9' => Some(byte - b'0'),
@@ -24,7 +24,7 @@ fn digit_value(byte: u8) -> Option<u8>
 
 // The column of the first byte that is no digit, or the length.
 fn first_bad(line: &[u8]) -> usize
-    ensures { λ r. ⌜ r ≡ column (now (line .entry)) ⌝ }
+    ensures { λ r. ⌜ r ≡ first-bad (now (line .entry)) ⌝ }
 {
     for (i, byte) in line.iter().enumerate() {
         if digit_value(*byte).is_none() {
@@ -37,7 +37,7 @@ fn first_bad(line: &[u8]) -> usize
 // Refuses a line that has a byte which is no digit.
 pub(crate) fn check_digits(line: &[u8]) -> Result<(), LineRefusal>
     requires { ⌜ length (now line) ≤ 64 ⌝ }
-    ensures { λ r. ⌜ r ≡ cond (ltb (column (now (line .entry))) (length (now (line .entry)))) (Err (BadDigit (column (now (line .entry))))) (Ok tt) ⌝ }
+    ensures { λ r. ⌜ r ≡ cond (ltb (first-bad (now (line .entry))) (length (now (line .entry)))) (Err (BadDigit (first-bad (now (line .entry))))) (Ok tt) ⌝ }
 {
     let column = first_bad(line);
     if column < line.len() {
@@ -50,7 +50,7 @@ pub(crate) fn check_digits(line: &[u8]) -> Result<(), LineRefusal>
 
 // The value of a digit, or 0 for any other byte.
 fn value_or_zero(byte: u8) -> u8
-    ensures value { λ r. ⌜ r ≡ valueOr (value byte) 0 ⌝ }
+    ensures value { λ r. ⌜ r ≡ valueOr (value-of byte) 0 ⌝ }
     ensures small { λ r. ⌜ r < 16 ⌝ }
 {
     digit_value(byte).unwrap_or(0)
@@ -60,7 +60,7 @@ fn value_or_zero(byte: u8) -> u8
 pub(crate) fn decode(line: &[u8], decoded: &mut [u8])
     requires even { ⌜ length (now line) % 2 ≡ 0 ⌝ }
     requires room { ⌜ length (now line) ≤ 2 * length (now decoded) ⌝ }
-    ensures { λ _. ⌜ take (length (now (line .entry)) / 2) (now (decoded .exit)) ≡ bytes (now (line .entry)) ⌝ }
+    ensures { λ _. ⌜ take (length (now (line .entry)) / 2) (now (decoded .exit)) ≡ line-bytes (now (line .entry)) ⌝ }
 {
     for i in 0..line.len() / 2 {
         decoded[i] = value_or_zero(line[2 * i]) * 16 + value_or_zero(line[2 * i + 1]);
@@ -70,7 +70,7 @@ pub(crate) fn decode(line: &[u8], decoded: &mut [u8])
 // The digit of a value below 16.
 fn digit_of(value: u8) -> u8
     requires { ⌜ value < 16 ⌝ }
-    ensures { λ r. ⌜ r ≡ digit value ⌝ }
+    ensures { λ r. ⌜ r ≡ digit-for value ⌝ }
 {
     if value < 10 {
         b'0' + value

@@ -1,11 +1,14 @@
 // Reading a line.
 ghost use mathlib.Core.Path.{_≡_};
-ghost use mathlib.Core.List.{List};
-ghost use Prim.Native.Nat.{ℕ, _<_};
+ghost use mathlib.Core.Bool.{cond};
+ghost use mathlib.Core.List.{List, [], _∷_};
+ghost use Prim.Native.Nat.{ℕ, _<_, _≤_};
+ghost use lib.Dec.{eqb};
 ghost use lib.ListN.{length, take};
-ghost use Rattle.std.specs.declared.result.Result.the-variants.{Ok};
+ghost use Rattle.std.specs.declared.result.Result.the-variants.{Ok, Err};
+ghost use Rattle.lines.specs.declared.refusal.LineRefusal.the-variants.{BadLength, BadRule};
 ghost use Rattle.lines.specs.Entries.{has, Says};
-ghost use Rattle.lines.specs.Reading.{reading};
+ghost use Rattle.lines.specs.Reading.{first-byte, unruled, rule-of, entry-of, checked, unknown-kind, wrong-length, bad-rule, reading};
 use crate::digits::check_digits;
 use crate::digits::decode;
 use crate::entry::Entry;
@@ -24,7 +27,9 @@ fn has_kind(input: Input, kind: u8) -> bool
 }
 
 // The rule of a rule byte and a gap.
-fn read_rule(rule: u8, gap: u16) -> Result<Rule, LineRefusal> {
+fn read_rule(rule: u8, gap: u16) -> Result<Rule, LineRefusal>
+    ensures { λ r. ⌜ r ≡ cond (unruled rule gap) (Err BadRule) (Ok (rule-of rule gap)) ⌝ }
+{
     match (rule, gap) {
         (0x00, 0) => Ok(Rule::FullLane),
         (0x01, 0) => Ok(Rule::LaneLessOne),
@@ -34,7 +39,10 @@ fn read_rule(rule: u8, gap: u16) -> Result<Rule, LineRefusal> {
 }
 
 // The entry of a kind and its fields.
-fn read_fields(bytes: &[u8]) -> Result<Entry, LineRefusal> {
+fn read_fields(bytes: &[u8]) -> Result<Entry, LineRefusal>
+    requires known { ⌜ 1 ≤ first-byte (now bytes) ⌝ ∗ ⌜ first-byte (now bytes) ≤ 6 ⌝ }
+    ensures { λ r. ⌜ r ≡ checked (wrong-length (now (bytes .entry)) ∷ bad-rule (now (bytes .entry)) ∷ []) (entry-of (now (bytes .entry))) ⌝ }
+{
     match bytes {
         [0x01, s1, s0, g1, g0] => Ok(Entry::Carrier {
             start: u16::from_be_bytes([*s1, *s0]),
@@ -67,7 +75,9 @@ fn read_fields(bytes: &[u8]) -> Result<Entry, LineRefusal> {
 }
 
 // What bytes say in an input.
-fn read_bytes(bytes: &[u8], input: Input) -> Result<Entry, LineRefusal> {
+fn read_bytes(bytes: &[u8], input: Input) -> Result<Entry, LineRefusal>
+    ensures { λ r. ⌜ r ≡ cond (eqb (length (now (bytes .entry))) 0) (Err BadLength) (checked (unknown-kind input (now (bytes .entry)) ∷ wrong-length (now (bytes .entry)) ∷ bad-rule (now (bytes .entry)) ∷ []) (entry-of (now (bytes .entry)))) ⌝ }
+{
     let [kind, ..] = bytes else {
         return Err(LineRefusal::BadLength);
     };
@@ -78,7 +88,11 @@ fn read_bytes(bytes: &[u8], input: Input) -> Result<Entry, LineRefusal> {
 }
 
 // Reads a line of an input: the entry that it says, or the refusal of the first check that applies.
-pub fn read_entry(line: &[u8], input: Input) -> Result<Entry, LineRefusal> {
+pub fn read_entry(line: &[u8], input: Input) -> Result<Entry, LineRefusal>
+    ensures said { λ r. ⌜ r ≡ reading input (now (line .entry)) ⌝ }
+    ensures exact { λ r. ⌜ ((e : Entry) → (r ≡ Ok e → Says input (now (line .entry)) e) × (Says input (now (line .entry)) e → r ≡ Ok e)) ⌝ }
+    ensures kept { λ r. ⌜ ((whole : List ℕ) → now (line .entry) ≡ take 65 whole → r ≡ reading input whole) ⌝ }
+{
     let 0..=64 = line.len() else {
         return Err(LineRefusal::BadLength);
     };

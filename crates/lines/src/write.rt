@@ -1,13 +1,17 @@
 // Writing the line of an entry.
 ghost use mathlib.Core.Path.{_≡_};
-ghost use mathlib.Core.Bool.{cond};
+ghost use mathlib.Core.Bool.{true, cond};
+ghost use Prim.Native.Nat.{ℕ};
 ghost use lib.Dec.{ltb};
+ghost use lib.ListN.{take, drop};
 ghost use Rattle.std.specs.Results.{isOk};
 ghost use Rattle.std.specs.declared.result.Result.the-variants.{Ok, Err};
 ghost use Rattle.lines.specs.declared.refusal.WriteRefusal.the-variants.{GapTooLong};
-ghost use Rattle.lines.specs.Entries.{rule-byte, gap-of, line-of};
+ghost use Rattle.lines.specs.Entries.{rule-byte, gap-of, kind-of, line-of, has};
 ghost use Rattle.lines.specs.Pages.{written, writing};
+ghost use Rattle.lines.specs.Reading.{reading};
 use crate::entry::Entry;
+use crate::entry::Input;
 use crate::entry::Rule;
 use crate::page::write_bytes;
 use crate::refusal::WriteRefusal;
@@ -28,6 +32,7 @@ fn rule_fields(rule: Rule) -> Result<(u8, u16), WriteRefusal>
 pub fn write_entry(entry: &Entry, page: &mut [u8], at: usize) -> Result<usize, WriteRefusal>
     ensures value { λ r. ⌜ r ≡ writing (now (page .entry)) at (now (entry .entry)) ⌝ }
     ensures after { λ r. ⌜ now (page .exit) ≡ cond (isOk r) (written (now (page .entry)) at (line-of (now (entry .entry)))) (now (page .entry)) ⌝ }
+    ensures back { λ r. ⌜ ((n : ℕ) (input : Input) → r ≡ Ok n → has input (kind-of (now (entry .entry))) ≡ true → reading input (take n (drop at (now (page .exit)))) ≡ Ok (now (entry .entry))) ⌝ }
 {
     match *entry {
         Entry::Carrier { start, goal } => {

@@ -20,7 +20,7 @@ use Rattle.lines.specs.Digits.{digits, two}
 use Rattle.lines.specs.Pages.{written, placing}
 use Rattle.replies.specs.Answers.{listed}
 use Rattle.lines.proofs.Hexadecimal.{length-digits, digits-append}
-use Rattle.lines.proofs.Lent.{landed}
+use Rattle.lines.proofs.Placing.{landed}
 
 -- a text written after another one
 pub extended : (front text start : List ℕ) (at : ℕ) → length front ≡ at → written (front ++ drop at start) at text ≡ (front ++ text) ++ drop (at + length text) start

@@ -72,7 +72,7 @@ impl FixedGap {
         if ticks > 36000 {
             return Err(GapRefusal::GapTooLong);
         }
-        self.ticks = ticks;
+        *self = FixedGap { ticks };
         Ok(())
     }
 }

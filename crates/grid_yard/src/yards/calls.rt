@@ -1,13 +1,14 @@
 // What a grid yard can be asked.
 ghost use mathlib.Core.Path.{_≡_};
 ghost use Prim.Native.Nat.{ℕ};
+ghost use lib.ListN.{take};
 ghost use Rattle.std.specs.Of.Vec.{vec-items};
 ghost use Rattle.std.specs.Results.{Cases as ByOk};
 ghost use Rattle.std.specs.Vec.{made};
 ghost use Rattle.std.specs.declared.option.Option.the-variants.{None};
 ghost use Rattle.std.specs.declared.result.Result.the-variants.{Err};
 ghost use Rattle.grid_yard.specs.Cells.{LanesOf};
-ghost use Rattle.grid_yard.specs.Faults.{Fault, Lawful};
+ghost use Rattle.grid_yard.specs.Faults.{Fault, Lawful, needed};
 ghost use Rattle.grid_yard.specs.Meaning.{lanes-of};
 ghost use Rattle.grid_yard.specs.Times.{open-cell};
 use crate::cells::is_closed;
@@ -45,13 +46,18 @@ impl GridYard {
         ensures exact { λ r. ⌜ ((e : GridRefusal) → Fault plan (now (closed .entry)) e → r ≡ Err e) ⌝ }
     {
         check_grid(plan, closed)?;
-        let needed = words_needed(plan);
+        self.replace(plan, closed);
+        Ok(())
+    }
+
+    // Puts this grid in place of the old one, with the words that its cells need.
+    fn replace(&mut self, plan: Plan, words: &[u64])
+        requires { ⌜ Lawful plan (now words) ⌝ }
+        ensures { λ _. ⌜ (now (self .exit) .plan ≡ plan) × (vec-items (now (self .exit) .closed) ≡ take (needed plan) (now (words .entry))) ⌝ }
+    {
         self.closed.clear();
-        match self.closed.extend_from_slice(&closed[0..needed]) {
-            Ok(()) => {
-                self.plan = plan;
-                Ok(())
-            }
+        match self.closed.extend_from_slice(&words[0..words_needed(plan)]) {
+            Ok(()) => self.plan = plan,
             Err(_) => unreachable(),
         }
     }

@@ -1,18 +1,19 @@
-use mathlib.Core.Path.{refl, _∙_}
+use mathlib.Core.Path.{refl}
 use native.Mathlib.Omega.{arith}
 use lib.ListN.{length}
-use Rattle.lags.proofs.Fits.{fit-inside, fit-ends, fit-allowed, zeros-low, overrun}
+use Rattle.lags.proofs.Fits.{fit-inside, fit-ends, fit-allowed, zeros-low}
 use Rattle.lags.proofs.solve.Needs as need
 
-pub count-ends-rounds-requires : need.count-ends-rounds-requires
-count-ends-rounds-requires c κs = let f = c .if-not-is-fit .ensures tt .0 refl in fit-ends _ _ _ f 1024 (f .few)
+pub count-ends-requires : need.count-ends-requires
+count-ends-requires c κs = let f = c .if-not-is-fit .ensures tt .0 refl in fit-ends _ _ _ f 1024 (f .few)
 
 pub settle-requires : need.settle-requires
 settle-requires c κs =
     let f = c .if-not-is-fit .ensures tt .0 refl in
     record {
       allowed = (fit-allowed _ _ _ f _ (c .fill .ensures .len), omega (arith, f .few, c .fill .ensures .len));
-      short = (f .short, (omega arith, omega (arith, c .count-ends-rounds .ensures .1)));
+      short = f .short;
+      ends = (c .count-ends .ensures .exact, c .count-ends .ensures .few);
       zero = zeros-low _ _ (c .fill .ensures .after (λ y h. h));
     }
 
@@ -25,7 +26,7 @@ write-ring-requires c κs =
         (omega (arith, f .few, c .settle .kept .parents, c .in-Some .ensures tt .1, c .fill .ensures .len), omega (arith, c .settle .kept .parents)),
       );
       room = fit-inside _ _ _ f (length (c .args .ring .now)) (f .wide);
-      over = overrun _ _ _ _ _ (c .count-ends-rounds .ensures .0) (c .in-Some .ensures tt .0);
+      over = c .in-Some .ensures tt .0;
     }
 
 pub returns-in-Some : need.returns-in-Some

@@ -8,14 +8,12 @@ ghost use Rattle.std.specs.declared.option.Option.the-variants.{None};
 ghost use Rattle.std.specs.declared.result.Result.the-variants.{Err};
 ghost use Rattle.lane_yard.specs.Faults.{Fault, Lawful};
 ghost use Rattle.lane_yard.specs.Meaning.{lanes-of, records-of};
-ghost use Rattle.lane_yard.specs.Records.{LanesOf};
+ghost use Rattle.lane_yard.specs.Records.{LanesOf, Tells};
 use crate::checks::check_lanes;
 use crate::lane::Lane;
-use crate::lane::LaneByPlaces;
 use crate::refusal::LayRefusal;
-use crate::search::narrow;
+use crate::search::time_between;
 use crate::yards::LaneYard;
-use keyed::find;
 use std::alloc::AllocError;
 use std::alloc::Global;
 use yard::Yard;
@@ -33,7 +31,6 @@ impl LaneYard {
     pub fn lanes(&self) -> &[Lane]
         ensures value { λ r. ⌜ now r ≡ records-of (now (self .entry)) ⌝ }
         ensures lawful { λ r. ⌜ Lawful (now r) ⌝ }
-        ensures exact { λ r. ⌜ LanesOf (now r) (lanes-of (now (self .entry))) ⌝ }
     {
         self.records.as_slice()
     }
@@ -44,9 +41,18 @@ impl LaneYard {
         ensures exact { λ r. ⌜ ((e : LayRefusal) → Fault (now (lanes .entry)) e → r ≡ Err e) ⌝ }
     {
         check_lanes(lanes)?;
+        self.replace(lanes);
+        Ok(())
+    }
+
+    // Puts these lanes in place of the old ones.
+    fn replace(&mut self, lanes: &[Lane])
+        requires { ⌜ Lawful (now lanes) ⌝ }
+        ensures { λ _. ⌜ records-of (now (self .exit)) ≡ now (lanes .entry) ⌝ }
+    {
         self.records.clear();
         match self.records.extend_from_slice(lanes) {
-            Ok(()) => Ok(()),
+            Ok(()) => {}
             Err(_) => unreachable(),
         }
     }
@@ -55,12 +61,10 @@ impl LaneYard {
 pub impl Yard for LaneYard as LaneYardYard {
     ghost lanes = { lanes-of };
 
-    fn travel_time(&self, from: u16, to: u16) -> Option<u16> {
-        let records = self.records.as_slice();
-        let (low, high) = narrow(records, from, to);
-        match find(&records[low..high], &(from, to)) {
-            Some(i) => Some(records[low + i].time),
-            None => None,
-        }
+    fn travel_time(&self, from: u16, to: u16) -> Option<u16>
+        ensures { λ r. ⌜ r ≡ lanes-of (now (self .entry)) from to ⌝ }
+        ensures { λ r. ⌜ Tells (records-of (now (self .entry))) from to r ⌝ }
+    {
+        time_between(self.lanes(), from, to)
     }
 }

@@ -21,6 +21,4 @@ loop-places-again c = tracing-more _ _ _ _ _ _ _ (c .loop-places .inv) (omega ar
 
 pub returns : need.returns
 returns c =
-    let h : 0 < at (c .loop-places .places) (c .loop-places .node) = omega arith in
-    let d = tracing-done _ _ _ _ _ _ _ (c .loop-places .inv) (omega arith) h in
-    record { within = (d .0, c .loop-places .inv .room); round = d .1 }
+    let h : 0 < at (c .loop-places .places) (c .loop-places .node) = omega arith in tracing-done _ _ _ _ _ _ _ (c .loop-places .inv) (omega arith) h .1

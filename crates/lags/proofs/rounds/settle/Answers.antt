@@ -1,19 +1,23 @@
-use mathlib.Core.Path.{_≡_, refl, _∙_}
+use mathlib.Core.Path.{refl, _∙_}
 use native.Mathlib.Omega.{arith}
 use Rattle.lags.proofs.Ceilings.{earliest}
-use Rattle.lags.proofs.InRounds.{rounds-none, rounds-more, rounds-same}
+use Rattle.lags.proofs.InRounds.{rounds-none, rounds-more}
+use Rattle.lags.proofs.Settles.{last-round}
 use Rattle.lags.proofs.rounds.settle.Needs as need
 
 pub loop-k-holds : need.loop-k-holds
-loop-k-holds c = (rounds-none _ _ _ _ (c .pre .zero), λ h. absurd (omega arith))
+loop-k-holds c = rounds-none _ _ _ (c .pre .zero)
 
-pub returns-in-None : need.returns-in-None
-returns-in-None c =
-    earliest _ _ _ _ _ _ (c .in-None .ensures tt .progress _ (c .loop-k .inv .0 .progress) .progress) (c .in-None .ensures tt .quiet refl .1) (c .pre .allowed .0)
-    (c .raise-round .kept .arrivals ∙ c .loop-k .kept .arrivals)
+pub returns-in-Break-raise-round : need.returns-in-Break-raise-round
+returns-in-Break-raise-round c =
+    rw (c .from-residual .ensures)
+    (earliest _ _ _ _ _ _ (c .raise-round .ensures .progress _ (c .loop-k .inv) .progress) (c .raise-round .ensures .quiet (c .in-Break-raise-round .was tt)) (c .pre .allowed .0)
+    (c .raise-round .kept .arrivals ∙ c .loop-k .kept .arrivals))
 
 pub loop-k-again : need.loop-k-again
-loop-k-again c = (rounds-more _ _ _ _ _ (c .in-Some .ensures tt .progress _ (c .loop-k .inv .0 .progress)), λ h. omega (arith, c .in-Some .ensures tt .within))
+loop-k-again c = rounds-more _ _ _ _ (c .raise-round .ensures .progress _ (c .loop-k .inv) .progress)
 
 pub returns : need.returns
-returns c = (rounds-same _ _ _ _ _ _ (omega arith) (c .loop-k .inv .0), c .loop-k .inv .1 (omega arith))
+returns c =
+    last-round _ _ _ _ _ _ _ _ _ (omega arith) (c .pre .ends .0) (c .loop-k .inv) (c .raise-round-2 .ensures .progress) (c .raise-round-2 .ensures .quiet) (c .raise-round-2 .ensures .within)
+    (c .pre .allowed .0) (c .loop-k .kept .arrivals) (c .raise-round-2 .kept .arrivals ∙ c .loop-k .kept .arrivals)

@@ -1,6 +1,5 @@
-use mathlib.Core.Path.{_≡_, ap, sym, subst, _∙_}
+use mathlib.Core.Path.{ap, sym, subst, _∙_}
 use borrow.Author.Needs.{needs}
-use Rattle.std.specs.Of.Vec.{vec-items}
 use Rattle.std.specs.declared.result.Result.the-variants.{Err}
 use Rattle.std.proofs.shelf.Results.{err-from-errBy}
 use Rattle.lane_yard.specs.Records.{LanesOf, time-of}
@@ -17,7 +16,7 @@ returns-in-Break-check-lanes c =
 pub returns : need.returns
 returns c =
     let lawful = c .in-Continue-check-lanes .ensures tt in
-    let laid : vec-items (c .extend-from-slice .last .self) ≡ c .args .lanes .now = search needs in
+    let laid = c .replace .ensures in
     record {
       outcome = (lawful, laid, subst (λ xs. LanesOf (c .args .lanes .now) (time-of xs)) (sym laid) (lanes-listed _ (lawful .1 .1)));
       exact = λ e f. absurd (no-fault _ e lawful f);
