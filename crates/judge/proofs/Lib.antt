@@ -6,3 +6,4 @@ pub mod WaitSteps
 pub mod Fronts
 pub mod Settlings
 pub mod Tabled
+pub mod Routings

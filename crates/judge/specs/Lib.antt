@@ -4,3 +4,4 @@ pub mod Legs
 pub mod Meetings
 pub mod Waits
 pub mod Settling
+pub mod Routing

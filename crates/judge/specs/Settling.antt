@@ -47,3 +47,13 @@ module _ (Between : ℕ → ℕ → ℤ → Type 0) (n most : ℕ) (p : Pages) w
   Settles (Err (Undecided stop later)) = ⊥
   Settles (Err (HeadOn stop other)) = ⊥
   Settles (Err (RingOf k)) = Ring-written k
+
+-- as many numbers as are answered are on the page, of so many numbers
+abbrev pub Within : ℕ → ℕ → Result ℕ JudgeRefusal → Type 0
+Within timetable ring (Ok n) = n ≤ timetable
+Within timetable ring (Err PageTooShort) = Unit {0}
+Within timetable ring (Err (NotAtGoal carrier)) = Unit {0}
+Within timetable ring (Err (NoLane stop)) = Unit {0}
+Within timetable ring (Err (Undecided stop later)) = Unit {0}
+Within timetable ring (Err (HeadOn stop other)) = Unit {0}
+Within timetable ring (Err (RingOf k)) = k ≤ ring

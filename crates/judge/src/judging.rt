@@ -4,7 +4,9 @@ ghost use mathlib.Core.List.{_++_};
 ghost use Prim.Native.Nat.{ℕ, max, _^_, _<_, _≤_};
 ghost use lib.ListN.{drop, getD, length};
 ghost use Rattle.judge.specs.Legs.{NextsInside};
-ghost use Rattle.judge.specs.Settling.{Settles};
+ghost use Rattle.std.specs.Results.{Cases as ByOk};
+ghost use Rattle.judge.specs.Routing.{Precedences-clear, Precedences-refused, Routed};
+ghost use Rattle.judge.specs.Settling.{Settles, Within};
 ghost use Rattle.judge.specs.Waits.{Between, Consistent, Ready};
 use crate::legs::check_goals;
 use crate::legs::find_legs;
@@ -74,6 +76,7 @@ fn check_precedences(
     nexts: &[Option<u16>],
 ) -> Result<(), JudgeRefusal>
     requires { ⌜ Consistent (now stops) (now precedences) ⌝ ∗ ⌜ length (now nexts) ≡ length (now stops) ⌝ ∗ ⌜ NextsInside (now nexts) ⌝ }
+    ensures { λ r. ⌜ ByOk r (λ _. Precedences-clear (now (stops .entry)) (now (nexts .entry)) (now (precedences .entry))) (λ e. Precedences-refused (now (stops .entry)) (now (nexts .entry)) (now (precedences .entry)) e) ⌝ }
 {
     let mut leads = [false; 65536];
     mark_leads(precedences, &mut leads);
@@ -95,6 +98,7 @@ fn judge_routes<Y: Yard, R: FollowingRule>(
     requires sheet { ⌜ Consistent (now stops) (now precedences) ⌝ }
     requires room { ⌜ (1024 ≤ length (now times)) × (1024 ≤ length (now nexts)) ⌝ }
     requires pages { ⌜ (length (now stops) ≤ length (now timetable)) × (length (now stops) ≤ length (now ring)) ⌝ }
+    ensures { λ r. ⌜ Routed (Y·Yard .lanes (now (yard .entry))) (R·FollowingRule .gaps (now (rule .entry))) (max 36000 (R·FollowingRule .largest)) (now (stops .entry)) (now (precedences .entry)) (record { timetable = now (timetable .entry); ring = now (ring .entry); timetable-after = now (timetable .exit); ring-after = now (ring .exit) }) r ⌝ }
 {
     let times = &mut times[0..stops.len()];
     let nexts = &mut nexts[0..stops.len()];
@@ -110,7 +114,9 @@ pub fn judge<Y: Yard, R: FollowingRule>(
     rule: &R,
     timetable: &mut [u32],
     ring: &mut [u16],
-) -> Result<u16, JudgeRefusal> {
+) -> Result<u16, JudgeRefusal>
+    ensures within { λ r. ⌜ Within (length (now (timetable .entry))) (length (now (ring .entry))) r ⌝ }
+{
     let stops = sheet.stops();
     if timetable.len() < stops.len() || ring.len() < stops.len() {
         return Err(JudgeRefusal::PageTooShort);

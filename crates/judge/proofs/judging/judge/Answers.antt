@@ -2,6 +2,8 @@ use mathlib.Core.Path.{sym, ap, _∙_}
 use Prim.Native.Nat.{_≤_}
 use lib.ListN.{length}
 use native.Mathlib.Omega.{arith}
+use Rattle.judge.specs.Settling.{Pages}
+use Rattle.judge.proofs.Routings.{routed-within}
 use Rattle.judge.proofs.Tabled.{consistent}
 use Rattle.judge.proofs.judging.judge.Needs as need
 
@@ -15,3 +17,8 @@ judge-routes-requires g c κs =
       room = (omega arith, omega arith);
       pages = (omega arith, omega arith);
     }
+
+pub returns : need.returns
+returns g c =
+    let pages : Pages = record { timetable = c .args .timetable .now; ring = c .args .ring .now; timetable-after = c .judge-routes .last .timetable; ring-after = c .judge-routes .last .ring } in
+    record { within = routed-within _ _ _ _ _ pages (omega arith) (c .judge-routes .kept .ring) (c .judge-routes .result) (c .judge-routes .ensures) }
