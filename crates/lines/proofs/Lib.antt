@@ -1,3 +1,4 @@
+pub mod Columns
 pub mod Hexadecimal
 pub mod Placing
 pub mod Readings

@@ -65,6 +65,7 @@ entry-back input (Lane from to time) h k = rw (k, word-back from (h .0), word-ba
 
 -- the line of a lawful entry reads as that entry, in an input that has its kind
 pub read-back : (input : Input) (e : Entry) → Lawful e → has input (kind-of e) ≡ true → reading input (line-of e) ≡ Ok e
+unfolding line-of
 read-back input e h k =
     let bs = kind-of e ∷ fields-of e in
     let z = sizes e in
@@ -216,7 +217,7 @@ module _ (bs : List ℕ) (small : All (λ b. b < 256) bs) (low : 1 ≤ first-byt
       (λ n5. lane (grind (arith, tells)))))))
 
 pub only-line : (input : Input) (line : List ℕ) (e : Entry) → reading input line ≡ Ok e → Says input line e
-unfolding reading
+unfolding reading line-of
 only-line input line e h =
     let bs = line-bytes line in
     let p = passes (checks input line) (entry-of bs) e h in

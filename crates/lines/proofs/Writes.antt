@@ -32,15 +32,18 @@ module _ (entry e : Entry) (bs page after : List ℕ) (at : ℕ) (r : Result ℕ
   same = made ∙ ap (λ (x : Entry). kind-of x ∷ fields-of x) (sym is)
 
   value-of : r ≡ writing page at entry
+  unfolding line-of
   value-of =
       let g : gap-in entry ≤ 36000 = omega (arith, ap gap-in is) in
       let s : ltb 36000 (gap-in entry) ≡ false = grind (arith, tells) in
       value ∙ rw (s, same)
 
   after-of : after ≡ cond (isOk r) (written page at (line-of entry)) page
+  unfolding line-of
   after-of = left ∙ ap (λ (t : List ℕ). cond (isOk r) (written page at (digits t)) page) same
 
   back-of : (n : ℕ) (input : Input) → r ≡ Ok n → has input (kind-of entry) ≡ true → reading input (take n (drop at after)) ≡ Ok entry
+  unfolding line-of
   back-of n input h k =
       let P : List ℕ → Type 0 = All (λ b. b < 256) in
       let small = subst P (back n h) (small-bytes (take n (drop at after))) in

@@ -9,6 +9,6 @@ use Rattle.lines.specs.declared.buffer.LineBuffer.{LineBuffer}
 abbrev pub kept : LineBuffer → List ℕ
 kept b = take (b .count) (b .bytes)
 
--- the buffer was pushed a line since it was last cleared: it keeps the line's first 65 bytes
+-- what the buffer keeps of a line whose bytes were pushed since it was new or cleared: the first 65
 abbrev pub Keeps : LineBuffer → List ℕ → Type 0
 Keeps b line = kept b ≡ take 65 line

@@ -1,8 +1,10 @@
 -- Bytes as capital hexadecimal digits, and numbers as bytes.
 use mathlib.Core.Bool.{cond, _&&_}
 use mathlib.Core.List.{List, [], _∷_}
-use Prim.Native.Nat.{ℕ, suc, _+_, _-_, _*_, _/_, _%_}
+use mathlib.Core.Logic.{_⊎_}
+use Prim.Native.Nat.{ℕ, suc, _+_, _-_, _*_, _/_, _%_, _<_, _≤_}
 use lib.Dec.{leb, ltb}
+use lib.ListN.{length, getD}
 use Rattle.std.specs.declared.option.Option.{Option}
 use Rattle.std.specs.declared.option.Option.the-variants.{Some, None}
 use Rattle.std.specs.Options.{isSome, valueOr}
@@ -19,6 +21,14 @@ value-of b = cond (leb 48 b && leb b 57) (Some (b - 48)) (cond (leb 65 b && leb 
 abbrev pub first-bad : List ℕ → ℕ
 first-bad [] = 0
 first-bad (b ∷ bs) = cond (isSome (value-of b)) (suc (first-bad bs)) 0
+
+-- a byte that is a digit: 0 to 9, or A to F
+abbrev pub IsDigit : ℕ → Type 0
+IsDigit b = ((48 ≤ b) × (b ≤ 57)) ⊎ ((65 ≤ b) × (b ≤ 70))
+
+-- the byte at a column is the first of the line that is no digit
+abbrev pub FirstBad : List ℕ → ℕ → Type 0
+FirstBad line c = (c < length line) × (IsDigit (getD line c 0) → ⊥) × ((k : ℕ) → k < c → IsDigit (getD line k 0))
 
 -- two digits for each byte, the high digit first
 abbrev pub digits : List ℕ → List ℕ

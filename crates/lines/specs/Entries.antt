@@ -50,7 +50,7 @@ gap-in (Judge rule) = gap-of rule
 gap-in (Lane from to time) = 0
 
 -- the line of an entry: the kind and then the fields, as digits
-abbrev pub line-of : Entry → List ℕ
+unfoldable pub line-of : Entry → List ℕ
 line-of e = digits (kind-of e ∷ fields-of e)
 
 -- an entry whose numbers fit their fields, and whose fixed gap, if it has one, is at most 36,000

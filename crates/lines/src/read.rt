@@ -6,7 +6,8 @@ ghost use Prim.Native.Nat.{ℕ, _<_, _≤_};
 ghost use lib.Dec.{eqb};
 ghost use lib.ListN.{length, take};
 ghost use Rattle.std.specs.declared.result.Result.the-variants.{Ok, Err};
-ghost use Rattle.lines.specs.declared.refusal.LineRefusal.the-variants.{BadLength, BadRule};
+ghost use Rattle.lines.specs.declared.refusal.LineRefusal.the-variants.{BadDigit, BadLength, BadRule};
+ghost use Rattle.lines.specs.Digits.{FirstBad};
 ghost use Rattle.lines.specs.Entries.{has, Says};
 ghost use Rattle.lines.specs.Reading.{first-byte, unruled, rule-of, entry-of, checked, unknown-kind, wrong-length, bad-rule, reading};
 use crate::digits::check_digits;
@@ -91,6 +92,7 @@ fn read_bytes(bytes: &[u8], input: Input) -> Result<Entry, LineRefusal>
 pub fn read_entry(line: &[u8], input: Input) -> Result<Entry, LineRefusal>
     ensures said { λ r. ⌜ r ≡ reading input (now (line .entry)) ⌝ }
     ensures exact { λ r. ⌜ ((e : Entry) → (r ≡ Ok e → Says input (now (line .entry)) e) × (Says input (now (line .entry)) e → r ≡ Ok e)) ⌝ }
+    ensures column { λ r. ⌜ ((c : ℕ) → (r ≡ Err (BadDigit c) → (length (now (line .entry)) ≤ 64) × FirstBad (now (line .entry)) c) × (length (now (line .entry)) ≤ 64 → FirstBad (now (line .entry)) c → r ≡ Err (BadDigit c))) ⌝ }
     ensures kept { λ r. ⌜ ((whole : List ℕ) → now (line .entry) ≡ take 65 whole → r ≡ reading input whole) ⌝ }
 {
     let 0..=64 = line.len() else {

@@ -6,6 +6,7 @@ ghost use lib.Dec.{ltb};
 ghost use lib.ListN.{take, drop};
 ghost use Rattle.std.specs.Results.{isOk};
 ghost use Rattle.std.specs.declared.result.Result.the-variants.{Ok, Err};
+ghost use Rattle.lines.specs.declared.entry.Entry.the-variants.{Judge};
 ghost use Rattle.lines.specs.declared.refusal.WriteRefusal.the-variants.{GapTooLong};
 ghost use Rattle.lines.specs.Entries.{rule-byte, gap-of, kind-of, line-of, has};
 ghost use Rattle.lines.specs.Pages.{written, writing};
@@ -26,6 +27,17 @@ fn rule_fields(rule: Rule) -> Result<(u8, u16), WriteRefusal>
         Rule::FixedGap { gap } if gap <= 36000 => Ok((0x02, gap)),
         Rule::FixedGap { .. } => Err(WriteRefusal::GapTooLong),
     }
+}
+
+// Writes the line of a judging.
+fn write_judge(rule: Rule, page: &mut [u8], at: usize) -> Result<usize, WriteRefusal>
+    ensures value { λ r. ⌜ r ≡ writing (now (page .entry)) at (Judge rule) ⌝ }
+    ensures after { λ r. ⌜ now (page .exit) ≡ cond (isOk r) (written (now (page .entry)) at (line-of (Judge rule))) (now (page .entry)) ⌝ }
+    ensures back { λ r. ⌜ ((n : ℕ) (input : Input) → r ≡ Ok n → has input 5 ≡ true → reading input (take n (drop at (now (page .exit)))) ≡ Ok (Judge rule)) ⌝ }
+{
+    let (byte, gap) = rule_fields(rule)?;
+    let [g1, g0] = gap.to_be_bytes();
+    write_bytes(&[0x05, byte, g1, g0], page, at)
 }
 
 // Writes the line of an entry into the page from the position `at` on, and answers how many bytes these are.
@@ -60,11 +72,7 @@ pub fn write_entry(entry: &Entry, page: &mut [u8], at: usize) -> Result<usize, W
             let [p1, p0] = place.to_be_bytes();
             write_bytes(&[0x04, first, second, p1, p0], page, at)
         }
-        Entry::Judge { rule } => {
-            let (rule, gap) = rule_fields(rule)?;
-            let [g1, g0] = gap.to_be_bytes();
-            write_bytes(&[0x05, rule, g1, g0], page, at)
-        }
+        Entry::Judge { rule } => write_judge(rule, page, at),
         Entry::Lane { from, to, time } => {
             let [f1, f0] = from.to_be_bytes();
             let [t1, t0] = to.to_be_bytes();

@@ -12,6 +12,8 @@ use Rattle.std.specs.Joined.{joined}
 use Rattle.std.specs.Results.{isOk}
 use Rattle.std.specs.declared.result.Result.{Result}
 use Rattle.std.specs.declared.result.Result.the-variants.{Ok, Err}
+use Rattle.std.specs.shelf.Lists.{All}
+use Rattle.std.proofs.shelf.Elements.{all-append}
 use Rattle.std.proofs.shelf.Ways.{tells}
 use Rattle.std.proofs.shelf.Lists.{append-assoc, append-nil, length-append, length-drop, length-take-le, take-at, drop-at, drop-drop, take-more, take-append-drop}
 use Rattle.lines.specs.declared.refusal.WriteRefusal.{WriteRefusal}
@@ -31,6 +33,10 @@ extended front text start at h =
     let f = drop-drop (length text) at start in
     let a = append-assoc front text (drop (at + length text) start) in
     cc
+
+pub all-joined : {X : Type 0} (f : X → List ℕ) (P : ℕ → Type 0) → ((x : X) → All P (f x)) → (xs : List X) → All P (joined f xs)
+all-joined f P h [] = tt
+all-joined f P h (x ∷ xs) = all-append P (f x) (joined f xs) (h x) (all-joined f P h xs)
 
 module _ {X : Type 0} (f : X → List ℕ) where
   pub joined-append : (xs ys : List X) → joined f (xs ++ ys) ≡ joined f xs ++ joined f ys
@@ -150,12 +156,17 @@ module _ {X : Type 0} (f : X → List ℕ) (size : ℕ) (sized : (x : X) → len
       let c = counted in
       rw (c, b)
 
-  pub fitting : at + (6 + 2 * size * length xs) ≤ length page → Ok (6 + 2 * size * length xs) ≡ cond (ltb 65535 (length xs)) (Err ListTooLong) (placing page at (digits (listed code f xs)))
+  pub fitting : at + (6 + 2 * size * length xs) ≤ length page → Ok (6 + 2 * size * length xs) ≡ placing page at (digits (listed code f xs))
   fitting h =
       let n = length-listed f size sized code xs in
       let b : ltb (length page) (at + length (digits (listed code f xs))) ≡ false = grind (arith, tells) in
-      let c = counted in
-      rw (c, b, n)
+      rw (b, n)
+
+  pub counting : placing page at (digits (listed code f xs)) ≡ cond (ltb 65535 (length xs)) (Err ListTooLong) (placing page at (digits (listed code f xs)))
+  counting = let c = counted in rw c
+
+  pub small-listed : code < 256 → ((x : X) → All (λ b. b < 256) (f x)) → All (λ b. b < 256) (listed code f xs)
+  small-listed h k = (h, (omega arith, (omega arith, all-joined f (λ b. b < 256) k xs)))
 
   -- the count's bytes are written, and then the numbers into the part behind them
   pub both-written : (head middle part : List ℕ) → at + 6 ≤ length page → head ≡ code ∷ two (length xs) [] → middle ≡ written page at (digits head)

@@ -41,7 +41,7 @@ bytes-of (ring stops) = listed 17 pair stops
 bytes-of (refused number first second) = number ∷ two first (two second [])
 
 -- the line of an answer
-abbrev pub line-of : Answer → List ℕ
+unfoldable pub line-of : Answer → List ℕ
 line-of a = digits (bytes-of a)
 
 -- how many numbers an answer lists

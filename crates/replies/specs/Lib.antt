@@ -1,2 +1,2 @@
 pub mod Answers
-pub mod Replies
+pub mod Questions

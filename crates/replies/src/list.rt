@@ -2,14 +2,15 @@
 ghost use mathlib.Core.Path.{_≡_};
 ghost use mathlib.Core.Bool.{cond};
 ghost use mathlib.Core.List.{List, _++_};
-ghost use Prim.Native.Nat.{ℕ, _*_, _≤_};
+ghost use Prim.Native.Nat.{ℕ, _*_, _<_, _≤_};
 ghost use lib.Dec.{ltb};
-ghost use lib.ListN.{length, drop};
+ghost use lib.ListN.{length, take, drop};
 ghost use Rattle.std.specs.Joined.{joined};
 ghost use Rattle.std.specs.Results.{isOk};
+ghost use Rattle.std.specs.shelf.Lists.{All};
 ghost use Rattle.std.specs.declared.result.Result.the-variants.{Ok, Err};
 ghost use Rattle.lines.specs.declared.refusal.WriteRefusal.the-variants.{ListTooLong};
-ghost use Rattle.lines.specs.Digits.{digits};
+ghost use Rattle.lines.specs.Digits.{digits, line-bytes};
 ghost use Rattle.lines.specs.Pages.{written, placing};
 ghost use Rattle.replies.specs.Answers.{pair, four, listed};
 use lines::page::write_bytes;
@@ -26,6 +27,8 @@ pub(crate) trait Listed {
     law sized: { (x : Self) → length (bytes x) ≡ size };
 
     law short: { size ≤ 4 };
+
+    law small: { (x : Self) → All (λ b. b < 256) (bytes x) };
 
     fn byte_count() -> usize
         ensures { λ r. ⌜ r ≡ size ⌝ };
@@ -87,6 +90,7 @@ pub(crate) fn write_list<N: Listed>(
 ) -> Result<usize, WriteRefusal>
     ensures value { λ r. ⌜ r ≡ cond (ltb 65535 (length (now (numbers .entry)))) (Err ListTooLong) (placing (now (page .entry)) at (digits (listed code (N·Listed .bytes) (now (numbers .entry))))) ⌝ }
     ensures after { λ r. ⌜ now (page .exit) ≡ cond (isOk r) (written (now (page .entry)) at (digits (listed code (N·Listed .bytes) (now (numbers .entry))))) (now (page .entry)) ⌝ }
+    ensures back { λ r. ⌜ ((n : ℕ) → r ≡ Ok n → line-bytes (take n (drop at (now (page .exit)))) ≡ listed code (N·Listed .bytes) (now (numbers .entry))) ⌝ }
 {
     let Ok(count) = u16::try_from(numbers.len()) else {
         return Err(WriteRefusal::ListTooLong);

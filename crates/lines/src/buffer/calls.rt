@@ -20,7 +20,8 @@ impl LineBuffer {
 
     // Takes in the next byte of the line; past the 65th none is kept.
     pub fn push(&mut self, byte: u8)
-        ensures { λ _. ⌜ kept (now (self .exit)) ≡ take 65 (kept (now (self .entry)) ++ byte ∷ []) ⌝ }
+        ensures next { λ _. ⌜ kept (now (self .exit)) ≡ take 65 (kept (now (self .entry)) ++ byte ∷ []) ⌝ }
+        ensures whole { λ _. ⌜ ((line : List ℕ) → Keeps (now (self .entry)) line → Keeps (now (self .exit)) (line ++ byte ∷ [])) ⌝ }
     {
         if self.count < 65 {
             self.bytes[self.count] = byte;
@@ -37,7 +38,8 @@ impl LineBuffer {
 
     // Whether the line has a byte.
     pub fn is_started(&self) -> bool
-        ensures { λ r. ⌜ r ≡ ltb 0 (length (kept (now (self .entry)))) ⌝ }
+        ensures started { λ r. ⌜ r ≡ ltb 0 (length (kept (now (self .entry)))) ⌝ }
+        ensures whole { λ r. ⌜ ((line : List ℕ) → Keeps (now (self .entry)) line → r ≡ ltb 0 (length line)) ⌝ }
     {
         self.count > 0
     }

@@ -1,15 +1,12 @@
 use mathlib.Core.Path.{_≡_}
 use mathlib.Core.List.{List, [], _∷_}
-use Prim.Native.Nat.{ℕ, _≤_}
-use mathlib.Core.Bool.{false}
-use lib.Dec.{ltb}
+use Prim.Native.Nat.{ℕ}
 use lib.ListN.{getD}
 use native.Mathlib.Omega.{arith}
 use borrow.Author.Needs.{needs}
-use Rattle.std.proofs.shelf.Tests.{ltb-false}
 use Rattle.lines.specs.declared.entry.Entry.{Entry}
-use Rattle.lines.specs.declared.entry.Entry.the-variants.{Carrier, Stop, Precedence, Strike, Judge, Lane}
-use Rattle.lines.specs.Entries.{kind-of, fields-of, rule-byte, gap-of}
+use Rattle.lines.specs.declared.entry.Entry.the-variants.{Carrier, Stop, Precedence, Strike, Lane}
+use Rattle.lines.specs.Entries.{kind-of, fields-of}
 use Rattle.lines.proofs.Writes.{outcome}
 use Rattle.lines.proofs.write.write_entry.Needs as need
 
@@ -52,21 +49,6 @@ returns-in-Strike c =
     let made : bs ≡ kind-of e ∷ fields-of e = search needs in
     let w = c .write-bytes-in-Strike in
     let o = outcome (c .args .entry .now) e bs (c .args .page .now) (w .last .page) (c .args .at) (w .result) (c .in-Strike .is) made (omega arith) (λ s. (s .1 .0, s .1 .1 .0, omega arith)) (w .ensures .value) (w .ensures .after) (w .ensures .back) in
-    record { value = o .0; after = o .1; back = o .2 }
-
-pub returns-in-Continue-rule : need.returns-in-Continue-rule
-returns-in-Continue-rule c =
-    let e : Entry = Judge (c .in-Judge .rule) in
-    let g = c .to-be-bytes-in-Judge .result in
-    let was = c .in-Continue-rule .ensures tt in
-    let bs : List ℕ = 5 ∷ c .in-Continue-rule .rule ∷ getD g 0 0 ∷ getD g 1 0 ∷ [] in
-    let fits : ltb 36000 (gap-of (c .in-Judge .rule)) ≡ false = grind arith in
-    let short : gap-of (c .in-Judge .rule) ≤ 36000 = ltb-false 36000 (gap-of (c .in-Judge .rule)) fits in
-    let rule : c .in-Continue-rule .rule ≡ rule-byte (c .in-Judge .rule) = grind arith in
-    let gap : c .in-Continue-rule .gap ≡ gap-of (c .in-Judge .rule) = grind arith in
-    let made : bs ≡ kind-of e ∷ fields-of e = search needs in
-    let w = c .write-bytes-in-Judge in
-    let o = outcome (c .args .entry .now) e bs (c .args .page .now) (w .last .page) (c .args .at) (w .result) (c .in-Judge .is) made short (λ _. short) (w .ensures .value) (w .ensures .after) (w .ensures .back) in
     record { value = o .0; after = o .1; back = o .2 }
 
 pub returns-in-Lane : need.returns-in-Lane

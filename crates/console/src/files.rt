@@ -1,0 +1,33 @@
+// Reading the file of the yard.
+use lane_yard::yards::LaneYard;
+use session::answer::Refusal;
+use session::yard_file::YardFile;
+use std::fs::File;
+use std::io;
+use std::io::Read;
+
+// Feeds what the file gives, to its end.
+fn feed(file: &mut File, read: &mut YardFile) -> io::Result<()> {
+    let mut chunk = [0u8; 4096];
+    for _ in 0..u64::MAX {
+        let count = file.read(&mut chunk)?;
+        if count == 0 {
+            return Ok(());
+        }
+        for byte in &chunk[0..count] {
+            read.push(*byte);
+        }
+    }
+    Ok(())
+}
+
+// Lays the lanes of `yard.hex` in the current folder. A file that cannot be read counts as empty.
+pub fn load_yard(rt: &LibcRuntime, yard: &mut LaneYard) -> io::Result<Result<(), Refusal>> {
+    let mut read = YardFile::new(rt.alloc())?;
+    if let Ok(mut file) = File::open(rt, "yard.hex") {
+        if feed(&mut file, &mut read).is_err() {
+            read = YardFile::new(rt.alloc())?;
+        }
+    }
+    Ok(read.lay(yard))
+}

@@ -1,0 +1,179 @@
+// The session and its calls.
+ghost use Rattle.judge.specs.Settling.{Within};
+ghost use Rattle.session.specs.Answers.{OnPages};
+use crate::answer::Answer;
+use crate::answer::Refusal;
+use judge::judging::judge;
+use judge::refusal::JudgeRefusal;
+use lane_yard::yards::LaneYard;
+use lane_yard::yards::LaneYardYard;
+use lines::entry::Entry;
+use lines::entry::Input;
+use lines::entry::Rule;
+use lines::read::read_entry;
+use lines::refusal::LineRefusal;
+use lines::refusal::WriteRefusal;
+use replies::reply::write_accepted;
+use replies::reply::write_passed;
+use replies::reply::write_refused;
+use replies::reply::write_ring;
+use sheet::refusal::EntryRefusal;
+use sheet::sheets::Sheet;
+use std::alloc::AllocError;
+use std::alloc::Global;
+use yard::rules::FixedGap;
+use yard::rules::FixedGapRule;
+use yard::rules::FullLane;
+use yard::rules::FullLaneRule;
+use yard::rules::LaneLessOne;
+use yard::rules::LaneLessOneRule;
+
+// A yard and a sheet, with pages for judging that are long enough for every sheet.
+#[derive(Drop)]
+pub struct Session {
+    yard: LaneYard,
+    sheet: Sheet,
+    timetable: [u32; 1024],
+    ring: [u16; 1024],
+}
+
+// What comes of an entry or a striking.
+fn entered(outcome: Result<u16, EntryRefusal>) -> Answer
+    ensures { λ r. ⌜ OnPages r ⌝ }
+{
+    match outcome {
+        Ok(number) => Answer::Accepted { number },
+        Err(why) => Answer::Refused {
+            refusal: Refusal::Entry { why },
+        },
+    }
+}
+
+impl Session {
+    // Opens a sheet beside the yard.
+    pub fn open(heap: Global, yard: LaneYard) -> Result<Session, AllocError> {
+        let sheet = Sheet::open(heap)?;
+        Ok(Session {
+            yard,
+            sheet,
+            timetable: [0; 1024],
+            ring: [0; 1024],
+        })
+    }
+
+    // The yard.
+    pub fn yard(&self) -> &LaneYard {
+        &self.yard
+    }
+
+    // The sheet.
+    pub fn sheet(&self) -> &Sheet {
+        &self.sheet
+    }
+
+    // The timetable of the last judging that passed, by stop number.
+    pub fn timetable(&self) -> &[u32] {
+        &self.timetable
+    }
+
+    // The ring of the last judging that found one.
+    pub fn ring(&self) -> &[u16] {
+        &self.ring
+    }
+
+    // Judges the sheet in the yard under the rule of a line.
+    fn judge_under(&mut self, rule: Rule) -> Answer
+        ensures { λ r. ⌜ OnPages r ⌝ }
+    {
+        let timetable = &mut self.timetable;
+        let ring = &mut self.ring;
+        let outcome = match rule {
+            Rule::FullLane => judge(&self.sheet, &self.yard, &FullLane, timetable, ring),
+            Rule::LaneLessOne => judge(&self.sheet, &self.yard, &LaneLessOne, timetable, ring),
+            Rule::FixedGap { gap } => {
+                let mut fixed = FixedGap::new();
+                if fixed.set(gap).is_err() {
+                    return Answer::Refused {
+                        refusal: Refusal::Line {
+                            why: LineRefusal::BadRule,
+                        },
+                    };
+                }
+                judge(&self.sheet, &self.yard, &fixed, timetable, ring)
+            }
+        };
+        judged(outcome)
+    }
+
+    // Does what the entry says.
+    fn take(&mut self, entry: Entry) -> Answer
+        ensures { λ r. ⌜ OnPages r ⌝ }
+    {
+        match entry {
+            Entry::Carrier { start, goal } => entered(self.sheet.enter_carrier(start, goal)),
+            Entry::Stop { carrier, place } => entered(self.sheet.enter_stop(carrier, place)),
+            Entry::Precedence {
+                first,
+                second,
+                place,
+            } => entered(self.sheet.enter_precedence(first, second, place)),
+            Entry::Strike {
+                first,
+                second,
+                place,
+            } => entered(self.sheet.strike_precedence(first, second, place)),
+            Entry::Judge { rule } => self.judge_under(rule),
+            Entry::Lane { .. } => Answer::Refused {
+                refusal: Refusal::Line {
+                    why: LineRefusal::UnknownKind,
+                },
+            },
+        }
+    }
+
+    // Answers a line of the sheet's input.
+    pub fn answer(&mut self, line: &[u8]) -> Answer
+        ensures { λ r. ⌜ OnPages r ⌝ }
+    {
+        match read_entry(line, Input::Sheet) {
+            Ok(entry) => self.take(entry),
+            Err(why) => Answer::Refused {
+                refusal: Refusal::Line { why },
+            },
+        }
+    }
+
+    // Answers a line of the sheet's input with its reply, at the front of the page, and says how long the reply is.
+    pub fn reply(&mut self, line: &[u8], page: &mut [u8]) -> Result<usize, WriteRefusal> {
+        match self.answer(line) {
+            Answer::Accepted { number } => write_accepted(number, page, 0),
+            Answer::Passed { stops } => {
+                write_passed(&self.timetable[0..stops as usize], page, 0)
+            }
+            Answer::Ring { length } => {
+                write_ring(&self.ring[0..length as usize], page, 0)
+            }
+            Answer::Refused { refusal } => write_refusal(refusal, page),
+        }
+    }
+}
+
+// What comes of a judging.
+fn judged(outcome: Result<u16, JudgeRefusal>) -> Answer
+    requires { ⌜ Within 1024 1024 outcome ⌝ }
+    ensures { λ r. ⌜ OnPages r ⌝ }
+{
+    match outcome {
+        Ok(stops) => Answer::Passed { stops },
+        Err(JudgeRefusal::Ring { length }) => Answer::Ring { length },
+        Err(why) => Answer::Refused {
+            refusal: Refusal::Judge { why },
+        },
+    }
+}
+
+// Writes the reply of a refusal to the front of the page.
+pub fn write_refusal(refusal: Refusal, page: &mut [u8]) -> Result<usize, WriteRefusal> {
+    let (first, second) = refusal.told();
+    write_refused(refusal.number(), first, second, page, 0)
+}
