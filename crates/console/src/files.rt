@@ -6,16 +6,21 @@ use std::fs::File;
 use std::io;
 use std::io::Read;
 
-// Feeds what the file gives, to its end.
-fn feed(file: &mut File, read: &mut YardFile) -> io::Result<()> {
+// Takes the next bytes of the file, and says whether there were any.
+fn feed_chunk(file: &mut File, read: &mut YardFile) -> io::Result<bool> {
     let mut chunk = [0u8; 4096];
+    let count = file.read(&mut chunk)?;
+    for byte in &chunk[0..count] {
+        read.push(*byte);
+    }
+    Ok(count > 0)
+}
+
+// Takes the file to its end.
+fn feed(file: &mut File, read: &mut YardFile) -> io::Result<()> {
     for _ in 0..u64::MAX {
-        let count = file.read(&mut chunk)?;
-        if count == 0 {
-            return Ok(());
-        }
-        for byte in &chunk[0..count] {
-            read.push(*byte);
+        if !feed_chunk(file, read)? {
+            break;
         }
     }
     Ok(())

@@ -45,18 +45,29 @@ fn take_bytes(
     Ok(())
 }
 
-// Answers every line of standard input; all replies are written out before more input is waited for.
+// Takes the next bytes of standard input, answers each line that ends in them, writes all replies out, and says whether
+// there were any bytes.
+fn answer_chunk(
+    input: &mut impl Read,
+    session: &mut Session,
+    line: &mut LineBuffer,
+    out: &mut impl Write,
+) -> io::Result<bool> {
+    let mut chunk = [0u8; 16384];
+    let count = input.read(&mut chunk)?;
+    take_bytes(&chunk[0..count], session, line, out)?;
+    out.flush()?;
+    Ok(count > 0)
+}
+
+// Answers every line of standard input.
 fn answer_all(rt: &LibcRuntime, session: &mut Session, out: &mut impl Write) -> io::Result<()> {
     let mut input = rt.stdin();
     let mut line = LineBuffer::new();
-    let mut chunk = [0u8; 16384];
     for _ in 0..u64::MAX {
-        let count = input.read(&mut chunk)?;
-        if count == 0 {
+        if !answer_chunk(&mut input, session, &mut line, out)? {
             break;
         }
-        take_bytes(&chunk[0..count], session, &mut line, out)?;
-        out.flush()?;
     }
     if line.is_started() {
         answer_line(session, line.line(), out)?;
