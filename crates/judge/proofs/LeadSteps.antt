@@ -10,7 +10,8 @@ use Rattle.judge.proofs.Alike.{all-alike}
 use Rattle.std.proofs.shelf.Tests.{cases-eq, both-ways}
 use Rattle.std.proofs.shelf.Lists.{getD-set-same, getD-set-other}
 use Rattle.sheet.specs.declared.records.Precedence.{Precedence}
-use Rattle.sheet.specs.Tables.{no-precedence, PrecedencesInside}
+use Rattle.sheet.specs.Records.{no-precedence}
+use Rattle.sheet.specs.Tables.{PrecedencesInside}
 use Rattle.judge.specs.Meetings.{Leads, leads-at}
 
 pub leads-more : (ps : List Precedence) (n : ℕ) (leads : List Bool) → PrecedencesInside 64 1024 ps → n < length ps → length leads ≡ 65536 → Leads ps n leads → Leads ps (n + 1) (set leads (getD ps n no-precedence .«first_stop» * 64 + getD ps n no-precedence .second) true)

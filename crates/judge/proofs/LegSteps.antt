@@ -10,7 +10,7 @@ use Rattle.std.specs.declared.option.Option.the-variants.{Some, None}
 use Rattle.std.proofs.shelf.Tests.{cases-eq, cases-lt}
 use Rattle.std.proofs.shelf.Lists.{getD-set-same, getD-set-other, getD-past}
 use Rattle.sheet.specs.declared.records.Stop.{Stop}
-use Rattle.sheet.specs.Tables.{no-stop}
+use Rattle.sheet.specs.Records.{no-stop}
 use Rattle.judge.specs.Legs.{Previous, lane-between, Legs}
 
 not-some : {X : Type 0} (x : X) → Some x ≡ None → ⊥

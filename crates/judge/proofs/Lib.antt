@@ -7,3 +7,4 @@ pub mod Fronts
 pub mod Settlings
 pub mod Tabled
 pub mod Routings
+pub mod Meant

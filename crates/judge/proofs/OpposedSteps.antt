@@ -13,7 +13,7 @@ use Rattle.std.proofs.shelf.Tests.{cases-eq}
 use Rattle.std.proofs.shelf.Ways.{tells}
 use Rattle.sheet.specs.declared.records.Precedence.{Precedence}
 use Rattle.sheet.specs.declared.records.Stop.{Stop}
-use Rattle.sheet.specs.Tables.{no-precedence}
+use Rattle.sheet.specs.Records.{no-precedence}
 use Rattle.judge.specs.Meetings.{Opposed-by, Opposed-below, LowestOpposed, NotAbove}
 
 -- the lower of two pairs is one of them, and not above either

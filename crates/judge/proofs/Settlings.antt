@@ -16,7 +16,7 @@ use Rattle.std.proofs.shelf.Lists.{getD-take, length-take-le, take-append-drop}
 use Rattle.std.proofs.shelf.Signed.{ints}
 use Rattle.sheet.specs.declared.records.Precedence.{Precedence}
 use Rattle.sheet.specs.declared.records.Stop.{Stop}
-use Rattle.sheet.specs.Tables.{no-precedence, no-stop}
+use Rattle.sheet.specs.Records.{no-precedence, no-stop}
 use Rattle.lags.specs.declared.Lag.{Lag}
 use Rattle.lags.specs.Solved.{Listed, Allowed, Fit, Under, Earliest, Looped}
 use Rattle.lags.specs.Ways.{Ring, Solution, Least}

@@ -12,7 +12,7 @@ use Rattle.std.proofs.shelf.Tests.{cases-eq}
 use Rattle.std.proofs.shelf.Lists.{getD-set-same, getD-set-other}
 use Rattle.sheet.specs.declared.records.Precedence.{Precedence}
 use Rattle.sheet.specs.declared.records.Stop.{Stop}
-use Rattle.sheet.specs.Tables.{no-precedence, no-stop}
+use Rattle.sheet.specs.Records.{no-precedence, no-stop}
 use Rattle.lags.specs.declared.Lag.{Lag}
 use Rattle.judge.specs.Waits.{no-lag, Travel, Waiting, Lists, LagOf}
 

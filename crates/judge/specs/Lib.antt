@@ -5,3 +5,4 @@ pub mod Meetings
 pub mod Waits
 pub mod Settling
 pub mod Routing
+pub mod Judged

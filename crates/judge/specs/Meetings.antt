@@ -8,7 +8,7 @@ use Rattle.std.specs.declared.option.Option.{Option}
 use Rattle.std.specs.declared.option.Option.the-variants.{Some, None}
 use Rattle.sheet.specs.declared.records.Precedence.{Precedence}
 use Rattle.sheet.specs.declared.records.Stop.{Stop}
-use Rattle.sheet.specs.Tables.{no-precedence, no-stop}
+use Rattle.sheet.specs.Records.{no-precedence, no-stop}
 
 -- whether the carrier of stop s is marked as going first there, before carrier c
 abbrev pub leads-at : List Bool → ℕ → ℕ → Bool

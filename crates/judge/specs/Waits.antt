@@ -9,7 +9,8 @@ use Rattle.std.specs.declared.option.Option.{Option}
 use Rattle.std.specs.declared.option.Option.the-variants.{Some, None}
 use Rattle.sheet.specs.declared.records.Precedence.{Precedence}
 use Rattle.sheet.specs.declared.records.Stop.{Stop}
-use Rattle.sheet.specs.Tables.{Linked, PrecedencesInside, StopsInside, no-precedence, no-stop}
+use Rattle.sheet.specs.Records.{no-precedence, no-stop}
+use Rattle.sheet.specs.Tables.{Linked, PrecedencesInside, StopsInside}
 use Rattle.lags.specs.declared.Lag.{Lag}
 use Rattle.judge.specs.Legs.{NextsInside, Stepped, Timely}
 

@@ -52,19 +52,19 @@ module _ (lags : List Lag) (base i : ℕ) (a p : ℕ → ℕ) (t : Progress lags
       let l : length xs ≤ n - 1 = omega (arith, shorter v xs x c b) in
       omega (arith, ints, back-most lags p a (t .when) v x xs (c .way) (c .raised), t .still x z, weights-under lags p a (t .when) w q xs (c .raised), mul-le-mul-right w l)
 
-  climb : (fuel v : ℕ) (xs : List ℕ) (x : ℕ) → Trace v xs x → x < n → n ≤ length xs + fuel → a v ≤ (n - 1) * w
-  climb zero v xs x c b f = absurd (omega (arith, shorter v xs x c b))
-  climb (suc fuel) v xs x c b f =
+  bounded : (fuel v : ℕ) (xs : List ℕ) (x : ℕ) → Trace v xs x → x < n → n ≤ length xs + fuel → a v ≤ (n - 1) * w
+  bounded zero v xs x c b f = absurd (omega (arith, shorter v xs x c b))
+  bounded (suc fuel) v xs x c b f =
       ⊎-elim
       (λ z. ended v xs x c b z)
       (λ z.
       let h : 0 < t .when x = omega arith in
-      climb fuel v (xs ++ x ∷ []) (parent lags p x .from) (traced-more lags p a (t .when) v xs x c (record { named = t .named x h; raised = t .parent x h }) (apart v xs x c))
+      bounded fuel v (xs ++ x ∷ []) (parent lags p x .from) (traced-more lags p a (t .when) v xs x c (record { named = t .named x h; raised = t .parent x h }) (apart v xs x c))
       (all-getD (Inside n) lags (p x) no-lag (t .named x h) inside .0) (omega (arith, length-push xs x)))
       (cases-eq (t .when x) 0)
 
   pub ceiling : (v : ℕ) → v < n → a v ≤ (n - 1) * w
-  ceiling v b = climb n v [] v (traced-none lags p a (t .when) v) b (omega arith)
+  ceiling v b = bounded n v [] v (traced-none lags p a (t .when) v) b (omega arith)
 
 -- to keep the lags of a list is to solve it
 pub solution-keeps : (lags : List Lag) (β : ℕ → ℕ) → Keeps lags β → Solution (Listed lags) β

@@ -1,15 +1,15 @@
 -- What the limits give.
-use mathlib.Core.Path.{_≡_, sym, ap, subst}
+use mathlib.Core.Path.{_≡_, ap}
 use mathlib.Core.List.{List}
-use Prim.Native.Nat.{ℕ, _+_, _≤_, _<_}
+use Prim.Native.Nat.{ℕ, _≤_, _<_}
 use native.Mathlib.Omega.{arith}
-use lib.ListN.{length, replicate}
+use lib.ListN.{replicate}
 use Rattle.std.specs.shelf.Lists.{All}
 use Rattle.std.proofs.shelf.Elements.{all-weaker}
 use Rattle.lags.specs.declared.Lag.{Lag}
 use Rattle.lags.specs.Solved.{at, Inside, Allowed, Fit}
 use Rattle.lags.specs.Progress.{Low}
-use Rattle.lags.proofs.Chases.{at-zeros}
+use Rattle.lags.proofs.OverrunTraces.{at-zeros}
 
 module _ (lags : List Lag) (nodes room : ℕ) (fit : Fit lags nodes room) where
   pub fit-inside : (m : ℕ) → nodes ≤ m → All (Inside m) lags

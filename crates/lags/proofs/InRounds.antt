@@ -1,5 +1,5 @@
 -- A round, as the code goes through it, and the rounds one after another.
-use mathlib.Core.Path.{_≡_, refl, sym, ap, subst, _∙_}
+use mathlib.Core.Path.{_≡_, sym, ap, subst, _∙_}
 use mathlib.Core.Logic.{⊎-elim}
 use mathlib.Core.List.{List}
 use mathlib.Core.Bool.{Bool, true, false, cond}
@@ -20,7 +20,7 @@ use Rattle.lags.specs.Solved.{at, Allowed}
 use Rattle.lags.specs.Times.{LessThan, Exactly, after}
 use Rattle.lags.specs.Progress.{lag-at, no-lag, Kept, Keeps, Progress, Moved, Low, InRound}
 use Rattle.lags.proofs.Times.{after-is, called-for, not-called-for}
-use Rattle.lags.proofs.Raises.{start, turn, pass, lift, lift-when}
+use Rattle.lags.proofs.Raises.{progress-none, progress-round, progress-kept, progress-raised, progress-raised-when}
 
 not-some : (v : ℕ) → Some v ≡ None → ⊥
 not-some v e = let z : _≡_ {A = ℕ} 0 1 = cc in omega arith
@@ -40,10 +40,10 @@ module _ (lags : List Lag) (α₀ p₀ α p : List ℕ) (i : ℕ) (raised : Opti
   reach = after (at α (g .from)) (g .weight)
 
   step-kept : Kept (at α) g → InRound lags α₀ p₀ α p (i + 1) raised
-  unfolding pass
+  unfolding progress-kept
   step-kept k = record {
     low = λ v. omega (arith, h .low v);
-    progress = λ base t. record { progress = pass lags base i (at α) (at p) (h .progress base t .progress) (rw is k); moved = h .progress base t .moved };
+    progress = λ base t. record { progress = progress-kept lags base i (at α) (at p) (h .progress base t .progress) (rw is k); moved = h .progress base t .moved };
     quiet = λ q j l. ⊎-elim (λ e. subst (Kept (at α)) (sym (ap (lag-at lags) e ∙ is)) k) (λ ne. h .quiet q j (omega arith)) (cases-eq j i);
     within = h .within;
   }
@@ -62,11 +62,11 @@ module _ (lags : List Lag) (α₀ p₀ α p : List ℕ) (i : ℕ) (raised : Opti
     step-raised = record {
       low = λ v. ⊎-elim (λ e. omega (arith, ints, reached v e, allowed .1, h .low (g .from))) (λ ne. omega (arith, at-else α (g .to) reach a-in v ne, h .low v)) (cases-eq v (g .to));
       progress = λ base t. record {
-        progress = lift lags base i (at α) (at p) (at (set α (g .to) reach)) (at (set p (g .to) i)) (h .progress base t .progress) in′ g is (allowed .1 .1) short reached
+        progress = progress-raised lags base i (at α) (at p) (at (set α (g .to) reach)) (at (set p (g .to) i)) (h .progress base t .progress) in′ g is (allowed .1 .1) short reached
             (at-else α (g .to) reach a-in) (at-here p (g .to) i p-in) (at-else p (g .to) i p-in);
         moved = omega (
           arith,
-          lift-when lags base i (at α) (at p) (at (set α (g .to) reach)) (at (set p (g .to) i)) (h .progress base t .progress) in′ g is (allowed .1 .1) short reached
+          progress-raised-when lags base i (at α) (at p) (at (set α (g .to) reach)) (at (set p (g .to) i)) (h .progress base t .progress) in′ g is (allowed .1 .1) short reached
               (at-else α (g .to) reach a-in) (at-here p (g .to) i p-in) (at-else p (g .to) i p-in),
         );
       };
@@ -86,15 +86,15 @@ round-none lags α p l = record { low = λ v. omega (arith, l v); progress = λ 
 
 module _ (lags : List Lag) (α₀ p₀ α p : List ℕ) (i : ℕ) (raised : Option ℕ) (e : i ≡ length lags) (h : InRound lags α₀ p₀ α p i raised) where
   pub round-all : (base : ℕ) → Progress lags base 0 (at α₀) (at p₀) → Moved lags (base + length lags) 0 (at α) (at p) base raised
-  unfolding turn
-  round-all base t = let r = rw e at (h .progress base t) in record { progress = turn lags base (at α) (at p) (r .progress); moved = r .moved }
+  unfolding progress-round
+  round-all base t = let r = rw e at (h .progress base t) in record { progress = progress-round lags base (at α) (at p) (r .progress); moved = r .moved }
 
   pub round-quiet : raised ≡ None → Keeps lags (at α)
   round-quiet q = all-from-getD (Kept (at α)) lags no-lag (λ j l. h .quiet q j (omega arith))
 
 -- no rounds, and one more
 pub rounds-none : (lags : List Lag) (α : List ℕ) (p : ℕ → ℕ) → Low α 0 → Progress lags (0 * length lags) 0 (at α) p
-rounds-none lags α p z = rw zero-mul (start lags (at α) p (λ v. omega (arith, z v)))
+rounds-none lags α p z = rw zero-mul (progress-none lags (at α) p (λ v. omega (arith, z v)))
 
 pub rounds-more : (lags : List Lag) (k : ℕ) (a p : ℕ → ℕ) → Progress lags (k * length lags + length lags) 0 a p → Progress lags ((k + 1) * length lags) 0 a p
 rounds-more lags k a p t = let e : (k + 1) * length lags ≡ k * length lags + length lags = omega arith in rw e t

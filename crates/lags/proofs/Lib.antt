@@ -7,7 +7,7 @@ pub mod Marks
 pub mod Traces
 pub mod Ceilings
 pub mod Settles
-pub mod Chases
+pub mod OverrunTraces
 pub mod Turns
 pub mod Reversals
 pub mod Fits

@@ -2,8 +2,8 @@
 use mathlib.Core.Path.{_≡_, refl, sym, ap, subst, _∙_}
 use mathlib.Core.Logic.{_⊎_, inl, inr, ⊎-elim}
 use mathlib.Core.List.{List}
-use mathlib.Core.Bool.{Bool, true, false, cond}
-use Prim.Native.Nat.{ℕ, _+_, _*_, _≤_, _<_}
+use mathlib.Core.Bool.{cond}
+use Prim.Native.Nat.{ℕ, _+_, _≤_, _<_}
 use native.Mathlib.Omega.{arith}
 use lib.Dec.{eqb}
 use lib.ListN.{length}
@@ -14,12 +14,12 @@ use Rattle.std.proofs.shelf.Elements.{all-getD}
 use Rattle.std.proofs.shelf.Tests.{cases-eq, eq-eqb, ne-eqb}
 use Rattle.lags.specs.declared.Lag.{Lag}
 use Rattle.lags.specs.Times.{LessThan, Exactly}
-use Rattle.lags.specs.Progress.{lag-at, no-lag, Kept, Keeps, RaisedBy, Progress}
+use Rattle.lags.specs.Progress.{lag-at, no-lag, Kept, RaisedBy, Progress}
 use Rattle.lags.proofs.Times.{exactly-at-least, exactly-at-most, raised-above, at-most-later, less-than-later, less-than-still, no-later, at-least-later, not-both}
 
 -- before the first round
-pub start : (lags : List Lag) (a p : ℕ → ℕ) → ((v : ℕ) → a v ≡ 0) → Progress lags 0 0 a p
-start lags a p z =
+pub progress-none : (lags : List Lag) (a p : ℕ → ℕ) → ((v : ℕ) → a v ≡ 0) → Progress lags 0 0 a p
+progress-none lags a p z =
     record {
       when = λ _. 0;
       rounds = inl refl;
@@ -34,8 +34,8 @@ start lags a p z =
     }
 
 -- the end of a round
-unfoldable pub turn : (lags : List Lag) (base : ℕ) (a p : ℕ → ℕ) → Progress lags base (length lags) a p → Progress lags (base + length lags) 0 a p
-turn lags base a p t =
+unfoldable pub progress-round : (lags : List Lag) (base : ℕ) (a p : ℕ → ℕ) → Progress lags base (length lags) a p → Progress lags (base + length lags) 0 a p
+progress-round lags base a p t =
     record {
       when = t .when;
       rounds = inr (omega arith);
@@ -50,8 +50,8 @@ turn lags base a p t =
     }
 
 -- a lag that is kept
-unfoldable pub pass : (lags : List Lag) (base i : ℕ) (a p : ℕ → ℕ) → Progress lags base i a p → Kept a (lag-at lags i) → Progress lags base (i + 1) a p
-pass lags base i a p t k =
+unfoldable pub progress-kept : (lags : List Lag) (base i : ℕ) (a p : ℕ → ℕ) → Progress lags base i a p → Kept a (lag-at lags i) → Progress lags base (i + 1) a p
+progress-kept lags base i a p t k =
     record {
       when = t .when;
       rounds = t .rounds;
@@ -127,8 +127,8 @@ module _ (lags : List Lag) (base i : ℕ) (a p a′ p′ : ℕ → ℕ) (t : Pro
   stays-kept : (h : Lag) → (h .from ≡ g .to → ⊥) → Kept a h → Kept a′ h
   stays-kept h ne k = rw (a-else (h .from) ne) (at-least-later (a-up (h .to)) k)
 
-  pub lift : Progress lags base (i + 1) a′ p′
-  lift = record {
+  pub progress-raised : Progress lags base (i + 1) a′ p′
+  progress-raised = record {
     when = when′;
     rounds = t .rounds;
     past = λ v. ⊎-elim (λ e. omega (arith, w-here v e)) (λ ne. omega (arith, w-else v ne, t .past v)) (cases-eq v (g .to));
@@ -159,6 +159,6 @@ module _ (lags : List Lag) (base i : ℕ) (a p a′ p′ : ℕ → ℕ) (t : Pro
       kept-now : (g .from ≡ g .to → ⊥) → Kept a′ g
       kept-now ne = rw (a-else (g .from) ne) (exactly-at-least (a-here (g .to) refl))
 
-  pub lift-when : lift .when (g .to) ≡ base + i + 1
-  unfolding lift
-  lift-when = w-here (g .to) refl
+  pub progress-raised-when : progress-raised .when (g .to) ≡ base + i + 1
+  unfolding progress-raised
+  progress-raised-when = w-here (g .to) refl

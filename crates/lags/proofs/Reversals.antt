@@ -1,9 +1,9 @@
 -- A page whose front is written over, and then reversed in two parts.
-use mathlib.Core.Path.{_≡_, refl, sym, ap, subst, _∙_}
+use mathlib.Core.Path.{_≡_, sym, ap, _∙_}
 use mathlib.Core.List.{List, [], _∷_, _++_, reverse}
-use Prim.Native.Nat.{ℕ, suc, _+_, _-_, _≤_, _<_}
+use Prim.Native.Nat.{ℕ, _+_, _-_, _≤_, _<_}
 use native.Mathlib.Omega.{arith}
-use lib.ListN.{length, getD, take, drop}
+use lib.ListN.{length, take, drop}
 use Rattle.std.specs.shelf.Lists.{All}
 use Rattle.std.proofs.shelf.Lists.{append-assoc, reverse-append, length-append, length-reverse, length-take-le, length-drop, take-append-drop, take-append-le, drop-append-le, take-at, drop-at, take-more, drop-more}
 use Rattle.lags.specs.Solved.{at}

@@ -4,7 +4,7 @@ use mathlib.Core.Bool.{true, false}
 use Prim.Native.Nat.{ℕ, _≤_, _<_}
 use native.Mathlib.Omega.{arith}
 use lib.IntN.{ℤ, pos, negsuc, _+ℤ_}
-use lib.Signed.{_≤ℤ_, _<ℤ_, ltZ}
+use lib.Signed.{_<ℤ_, ltZ}
 use Rattle.std.proofs.shelf.Signed.{ints}
 use Rattle.lags.specs.Times.{AtLeast, AtMost, LessThan, Exactly, after}
 
@@ -43,6 +43,12 @@ at-least-none x = record { so = omega (arith, ints) }
 
 pub at-most-none : (x : ℕ) → AtMost x (pos 0) x
 at-most-none x = record { so = omega (arith, ints) }
+
+pub sum-none : (w : ℤ) → w ≡ (pos 0 +ℤ w)
+sum-none w = omega (arith, ints)
+
+pub sum-assoc : (u v w : ℤ) → (u +ℤ (v +ℤ w)) ≡ ((u +ℤ v) +ℤ w)
+sum-assoc u v w = omega (arith, ints)
 
 module _ {x y z : ℕ} {v w : ℤ} where
   pub at-least-adds : AtLeast x v y → AtLeast y w z → AtLeast x (v +ℤ w) z

@@ -12,7 +12,7 @@ use Rattle.std.proofs.shelf.Elements.{all-push, all-drop, all-getD, all-weaker,
 use Rattle.lags.specs.declared.Lag.{Lag}
 use Rattle.lags.specs.Solved.{at}
 use Rattle.lags.specs.Times.{AtLeast, AtMost, LessThan}
-use Rattle.lags.specs.Progress.{no-lag, Kept, Keeps, RaisedBy}
+use Rattle.lags.specs.Progress.{no-lag, Kept, Keeps}
 use Rattle.lags.specs.Traced.{Distinct, End, parent, Back, weights, ByParent, Traced}
 use Rattle.lags.proofs.Times.{at-least-none, at-least-adds, at-most-none, at-most-adds, less-than-adds-left, less-than-adds-right, above-from-less}
 

@@ -1,24 +1,22 @@
 -- The way back round, read forward from its lowest node, is a ring.
 use mathlib.Core.Path.{_≡_, refl, sym, ap, subst, _∙_}
-use mathlib.Core.Logic.{_⊎_, inl, inr, ⊎-elim}
 use mathlib.Core.List.{List, [], _∷_, _++_, reverse}
 use Prim.Native.Nat.{ℕ, zero, suc, _+_, _-_, _≤_, _<_}
 use native.Mathlib.Omega.{arith}
-use lib.IntN.{ℤ, pos, _+ℤ_}
-use lib.Signed.{_≤ℤ_, _<ℤ_}
+use lib.IntN.{ℤ, _+ℤ_}
 use lib.ListN.{length, drop, take}
-use Rattle.std.proofs.shelf.Signed.{ints}
 use Rattle.std.specs.Runs.{nth}
-use Rattle.std.specs.declared.option.Option.the-variants.{Some, None}
-use Rattle.std.specs.shelf.Lists.{All, Has}
-use Rattle.std.proofs.shelf.Lists.{append-assoc, append-nil, reverse-append, length-append, length-reverse}
+use Rattle.std.specs.declared.option.Option.the-variants.{Some}
+use Rattle.std.specs.shelf.Lists.{All}
+use Rattle.std.proofs.shelf.Lists.{append-assoc, append-nil, reverse-append}
 use Rattle.std.proofs.shelf.Elements.{all-push, all-append, all-weaker, has-getD}
 use Rattle.lags.specs.declared.Lag.{Lag}
 use Rattle.lags.specs.Ways.{Way, Ring}
 use Rattle.lags.specs.Ways.Way.{last, more}
 use Rattle.lags.specs.Solved.{Listed, Inside, Looped}
 use Rattle.lags.specs.Progress.{no-lag}
-use Rattle.lags.specs.Traced.{Distinct, parent, Back, weights, ByParent, Circle, Turned}
+use Rattle.lags.specs.Traced.{Distinct, parent, Back, weights, ByParent, ParentCycle, Turned}
+use Rattle.lags.proofs.Times.{sum-none, sum-assoc}
 use Rattle.lags.proofs.Traces.{raised-ends, round-above, distinct-push}
 use Rattle.lags.proofs.Marks.{ends-below}
 use Rattle.lags.proofs.Ways.{ring-excludes}
@@ -82,13 +80,13 @@ module _ (lags : List Lag) (p : ℕ → ℕ) where
     -- a way from y, and before it the way back from y read forward
     forward : (y u : ℕ) (xs l : List ℕ) (t : ℕ) (w : ℤ) → Back lags p y xs u → All (ByParent lags p a when) xs → Way (Listed lags) y (y ∷ l) t w
         → (s : ℤ) × Way (Listed lags) u (u ∷ reverse xs ++ l) t s × (s ≡ (weights lags p xs +ℤ w))
-    forward y u [] l t w b r h = (w, rw (← b) h, omega (arith, ints))
+    forward y u [] l t w b r h = (w, rw (← b) h, sum-none w)
     forward y u (x ∷ xs) l t w b r h =
         let g : Way (Listed lags) (parent lags p x .from) (parent lags p x .from ∷ x ∷ l) t (parent lags p x .weight +ℤ w) = more (lag-to x (r .0)) (rw (← (b .0)) at h) in
         let q = forward (parent lags p x .from) u xs (x ∷ l) t (parent lags p x .weight +ℤ w) (b .1) (r .1) g in
-        (q .0, rw (reverse-append (x ∷ []) xs, append-assoc (reverse xs) (x ∷ []) l) (q .1), omega (arith, ints, q .2))
+        (q .0, rw (reverse-append (x ∷ []) xs, append-assoc (reverse xs) (x ∷ []) l) (q .1), q .2 ∙ sum-assoc (weights lags p xs) (parent lags p x .weight) w)
 
-  module _ (xs ys : List ℕ) (c : Circle lags p xs) (t : Turned xs ys) where
+  module _ (xs ys : List ℕ) (c : ParentCycle lags p xs) (t : Turned xs ys) where
     -- the way back round, from the lowest node on
     turned-way : Back lags p (t .low) (t .low ∷ t .rest ++ t .front) (t .low)
     turned-way =
@@ -117,7 +115,7 @@ module _ (lags : List Lag) (p : ℕ → ℕ) where
           from = t .low;
           sum = f .0;
           round = rw append-nil at (f .1);
-          above = omega (arith, ints, f .2, g);
+          above = rw (f .2) g;
           distinct = distinct-nth (t .low ∷ reverse (t .rest ++ t .front)) turned-distinct;
           lowest-first = λ i s e. all-nth (λ x. t .low ≤ x) (t .low ∷ reverse (t .rest ++ t .front)) i s turned-least e;
         }
@@ -125,13 +123,13 @@ module _ (lags : List Lag) (p : ℕ → ℕ) where
     pub ring : Ring (Listed lags) ys
     ring = rw (t .turns) turned-ring
 
-  pub circle-short : (xs : List ℕ) → Circle lags p xs → (n : ℕ) → All (Inside n) lags → length xs ≤ n
-  circle-short xs c n h =
+  pub cycle-short : (xs : List ℕ) → ParentCycle lags p xs → (n : ℕ) → All (Inside n) lags → length xs ≤ n
+  cycle-short xs c n h =
       ends-below lags n (all-weaker (Inside n) (λ g. g .to < n) (λ g b. b .1) lags h) xs (raised-ends lags p (c .a) (c .when) xs (c .traced .raised)) (c .traced .distinct)
 
   -- a ring on the front of a page
-  pub looped : (xs before after : List ℕ) (k : ℕ) → Circle lags p xs → length xs ≡ k → Turned xs (take (length xs) after) → drop (length xs) after ≡ drop (length xs) before
+  pub looped : (xs before after : List ℕ) (k : ℕ) → ParentCycle lags p xs → length xs ≡ k → Turned xs (take (length xs) after) → drop (length xs) after ≡ drop (length xs) before
       → (n : ℕ) → All (Inside n) lags → Looped lags n k before after
   looped xs before after k c l t s n h =
       let r : Ring (Listed lags) (take k after) = rw l at (ring xs (take (length xs) after) c t) in
-      record { ring = r; within = omega (arith, circle-short xs c n h); stands = rw l at s; unsolvable = λ α q. ring-excludes (Listed lags) α q (take k after) r }
+      record { ring = r; within = omega (arith, cycle-short xs c n h); stands = rw l at s; unsolvable = λ α q. ring-excludes (Listed lags) α q (take k after) r }

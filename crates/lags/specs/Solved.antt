@@ -24,11 +24,11 @@ abbrev pub Inside : ℕ → Lag → Type 0
 Inside nodes g = (g .from < nodes) × (g .to < nodes)
 
 -- the weight is -100,000 to 100,000
-abbrev pub Light : Lag → Type 0
-Light g = (negsuc 99999 ≤ℤ g .weight) × (g .weight ≤ℤ pos 100000)
+abbrev pub Limited : Lag → Type 0
+Limited g = (negsuc 99999 ≤ℤ g .weight) × (g .weight ≤ℤ pos 100000)
 
 abbrev pub Allowed : ℕ → Lag → Type 0
-Allowed nodes g = Inside nodes g × Light g
+Allowed nodes g = Inside nodes g × Limited g
 
 -- the limits within which lags are solved, for so many nodes and a ring page with so much room
 pub record Fit (lags : List Lag) (nodes room : ℕ) : Type 0 where

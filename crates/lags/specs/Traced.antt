@@ -66,13 +66,13 @@ module _ (lags : List Lag) (p : ℕ → ℕ) where
     pub distinct : Distinct xs
 
   -- the way back after an overrun, short enough that u was raised too
-  pub record Chased (v : ℕ) (xs : List ℕ) (u : ℕ) : Type 0 where
+  pub record OverrunTrace (v : ℕ) (xs : List ℕ) (u : ℕ) : Type 0 where
     pub over : Overrun lags p v
     pub traced : Traced (over .a) (over .progress .when) v xs u
     pub late : over .m * length lags < over .progress .when u + length xs * length lags
 
   -- a way back to where it began, of at least one node
-  pub record Circle (xs : List ℕ) : Type 0 where
+  pub record ParentCycle (xs : List ℕ) : Type 0 where
     pub a : ℕ → ℕ
     pub when : ℕ → ℕ
     pub node : ℕ
@@ -86,7 +86,7 @@ pub record Placed (xs places : List ℕ) : Type 0 where
 
 -- the way back from v has come to x; its nodes are the first of an array, and another has their places
 pub record Tracing (lags : List Lag) (parents : List ℕ) (v : ℕ) (nodes places : List ℕ) (len x : ℕ) : Type 0 where
-  pub chased : Chased lags (at parents) v (take len nodes) x
+  pub trace : OverrunTrace lags (at parents) v (take len nodes) x
   pub placed : Placed (take len nodes) places
   pub inside : x < length parents
   pub room : len ≤ length parents

@@ -1,6 +1,7 @@
 // Lags between numbered nodes: the least arrivals that keep every lag, or a ring that no arrivals keep.
 ghost use Rattle.lags.specs.Solved.{Solved};
 use ends::count_ends;
+use limits::MOST_NODES;
 use limits::is_fit;
 use rings::write_ring;
 use rounds::settle;
@@ -38,7 +39,7 @@ pub fn solve(lags: &[Lag], arrivals: &mut [u64], ring: &mut [u16]) -> Outcome
         return Outcome::Unfit;
     }
     arrivals.fill(0);
-    let mut parents = [0u16; 1024];
+    let mut parents = [0u16; MOST_NODES];
     match settle(lags, count_ends(lags), arrivals, &mut parents) {
         None => Outcome::Settled,
         Some(node) => Outcome::Ring {

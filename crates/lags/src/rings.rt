@@ -1,12 +1,12 @@
 // The ring that what raised what runs into.
 ghost use mathlib.Core.Path.{_≡_};
-ghost use mathlib.Core.List.{reverse, _++_};
-ghost use Prim.Native.Nat.{ℕ, _+_, _-_, _<_, _≤_};
-ghost use lib.ListN.{length, getD, take, drop};
+ghost use Prim.Native.Nat.{ℕ, _<_, _≤_};
+ghost use lib.ListN.{length, take, drop};
 ghost use Rattle.std.specs.shelf.Lists.{All};
 ghost use Rattle.lags.specs.Solved.{Inside, Looped, at};
-ghost use Rattle.lags.specs.Traced.{Circle, Overrun, Turned};
+ghost use Rattle.lags.specs.Traced.{ParentCycle, Overrun, Turned};
 use crate::Lag;
+use crate::limits::MOST_NODES;
 
 // Goes back from `start`, from each node to the one that raised it last, until a node comes up again.
 // Gives the nodes from the first time that it came up, in this order.
@@ -14,9 +14,9 @@ fn trace_back<'a>(lags: &[Lag], parents: &[u16], start: u16, nodes: &'a mut [u16
     requires inside { ⌜ All (Inside (length (now parents))) (now lags) ⌝ ∗ ⌜ start < length (now parents) ⌝ }
     requires room { ⌜ length (now parents) ≤ 1024 ⌝ ∗ ⌜ length (now parents) ≤ length (now nodes) ⌝ }
     requires over { ⌜ Overrun (now lags) (at (now parents)) start ⌝ }
-    ensures { λ r. ⌜ Circle (now (lags .entry)) (at (now (parents .entry))) (now r) ⌝ }
+    ensures { λ r. ⌜ ParentCycle (now (lags .entry)) (at (now (parents .entry))) (now r) ⌝ }
 {
-    let mut places = [0u16; 1024];
+    let mut places = [0u16; MOST_NODES];
     let mut len = 0;
     let mut node = start;
     while places[node as usize] == 0 {
@@ -63,8 +63,8 @@ pub(crate) fn write_ring(lags: &[Lag], parents: &[u16], start: u16, ring: &mut [
     requires over { ⌜ Overrun (now lags) (at (now parents)) start ⌝ }
     ensures { λ r. ⌜ ((n : ℕ) → All (Inside n) (now (lags .entry)) → Looped (now (lags .entry)) n r (now (ring .entry)) (now (ring .exit))) ⌝ }
 {
-    let mut nodes = [0u16; 1024];
-    let circle = trace_back(lags, parents, start, &mut nodes);
-    turn(circle, ring);
-    circle.len() as u16
+    let mut nodes = [0u16; MOST_NODES];
+    let cycle = trace_back(lags, parents, start, &mut nodes);
+    turn(cycle, ring);
+    cycle.len() as u16
 }

@@ -64,7 +64,7 @@ pub(crate) fn settle(
     requires zero { ⌜ Low (now arrivals) 0 ⌝ }
     ensures { λ r. ⌜ BySome r (Earliest (now (lags .entry)) (now (arrivals .exit))) (λ v. Overrun (now (lags .entry)) (at (now (parents .exit))) v × (v < length (now (arrivals .entry)))) ⌝ }
 {
-    for k in 0..ends {
+    for _ in 0..ends {
         raise_round(lags, arrivals, parents)?;
     }
     raise_round(lags, arrivals, parents)

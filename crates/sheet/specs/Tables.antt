@@ -1,26 +1,31 @@
--- What the tables of a sheet keep, so that each number in a record is one of a record that stands.
+-- The book that tables stand for, and what their records keep.
 use mathlib.Core.Path.{_≡_}
-use mathlib.Core.List.{List}
+use mathlib.Core.List.{List, [], _∷_, _++_}
 use Prim.Native.Nat.{ℕ, _<_}
-use lib.ListN.{length, getD}
-use Rattle.std.specs.declared.option.Option.the-variants.{Some, None}
+use lib.ListN.{length, getD, set}
+use Rattle.std.specs.Of.Vec.{vec-items}
+use Rattle.std.specs.declared.option.Option.the-variants.{Some}
 use Rattle.sheet.specs.declared.records.Carrier.{Carrier}
 use Rattle.sheet.specs.declared.records.Stop.{Stop}
 use Rattle.sheet.specs.declared.records.Precedence.{Precedence}
+use Rattle.sheet.specs.declared.sheets.Tables.{Tables}
+use Rattle.sheet.specs.Book.{Book}
+use Rattle.sheet.specs.Records.{book-from, Numbered, gone-on, no-carrier, no-stop, no-precedence}
 
--- what is read past the end of a list
-abbrev pub no-carrier : Carrier
-no-carrier = record { start = 0; goal = 0; «last_stop» = 0; «last_place» = 0 }
+abbrev pub book-of : Tables → Book
+book-of t = book-from (vec-items (t .carriers)) (vec-items (t .stops)) (vec-items (t .precedences))
 
-abbrev pub no-stop : Stop
-no-stop = record { carrier = 0; place = 0; previous = None }
+-- the numbers of stops that the records keep are right
+abbrev pub Numbered-tables : Tables → Type 0
+Numbered-tables t = Numbered (vec-items (t .carriers)) (vec-items (t .stops)) (vec-items (t .precedences))
 
-abbrev pub no-precedence : Precedence
-no-precedence = record { first = 0; second = 0; place = 0; «first_stop» = 0; «second_stop» = 0 }
-
--- a carrier after a further stop
-abbrev pub gone-on : Carrier → ℕ → ℕ → Carrier
-gone-on c stop place = record { start = c .start; goal = c .goal; «last_stop» = stop; «last_place» = place }
+-- the carrier's record goes on to the stop, the stop's is new, and every other record stays
+abbrev pub Only-goes-on : Tables → ℕ → ℕ → ℕ → Tables → Type 0
+Only-goes-on t carrier stop place t′ =
+    let was = getD (vec-items (t .carriers)) carrier no-carrier in
+    (vec-items (t′ .carriers) ≡ set (vec-items (t .carriers)) carrier (gone-on was stop place))
+    × (vec-items (t′ .stops) ≡ vec-items (t .stops) ++ record { carrier = carrier; place = place; previous = Some (was .«last_stop») } ∷ [])
+    × (vec-items (t′ .precedences) ≡ vec-items (t .precedences))
 
 -- each carrier's latest stop is one of the n stops
 abbrev pub CarriersInside : ℕ → List Carrier → Type 0

@@ -1,7 +1,7 @@
 // The records of a sheet, and the keys by which they are found.
 ghost use mathlib.Core.Path.{_≡_};
 ghost use Rattle.std.specs.Orderings.{Decides};
-ghost use Rattle.sheet.specs.Tables.{gone-on};
+ghost use Rattle.sheet.specs.Records.{gone-on};
 use keyed::Keyed;
 
 // A carrier that was entered, with how far its route has come.

@@ -1,7 +1,7 @@
 use native.Mathlib.Omega.{arith}
 use Prim.Native.Nat.{_<_}
 use Rattle.lags.specs.Solved.{at}
-use Rattle.lags.proofs.Chases.{tracing-none, tracing-named, tracing-room, tracing-more, tracing-done}
+use Rattle.lags.proofs.OverrunTraces.{tracing-none, tracing-named, tracing-room, tracing-more, tracing-done}
 use Rattle.lags.proofs.rings.trace_back.Needs as need
 
 pub loop-places-holds : need.loop-places-holds

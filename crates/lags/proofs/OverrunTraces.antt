@@ -1,11 +1,11 @@
 -- The way back after an overrun comes to a node again.
-use mathlib.Core.Path.{_≡_, refl, sym, ap, subst, _∙_}
-use mathlib.Core.Logic.{_⊎_, inl, inr, ⊎-elim}
+use mathlib.Core.Path.{_≡_, refl, sym, ap, _∙_}
+use mathlib.Core.Logic.{_⊎_, ⊎-elim}
 use mathlib.Core.List.{List, [], _∷_, _++_}
-use Prim.Native.Nat.{ℕ, suc, _+_, _-_, _*_, _≤_, _<_}
+use Prim.Native.Nat.{ℕ, _+_, _-_, _≤_, _<_}
 use native.Mathlib.Nat.{mul-le-mul-right}
 use native.Mathlib.Omega.{arith}
-use lib.ListN.{length, getD, drop, set, take, replicate}
+use lib.ListN.{length, drop, set, take, replicate}
 use Rattle.std.specs.shelf.Lists.{All, between}
 use Rattle.std.proofs.shelf.Parts.{between-is}
 use Rattle.std.proofs.shelf.Lists.{length-set, take-more-set, length-take-le, length-push, length-drop, length-replicate, getD-push, getD-append-left, getD-past, getD-replicate, getD-set-same, getD-set-other}
@@ -13,8 +13,8 @@ use Rattle.std.proofs.shelf.Elements.{all-push, all-getD, all-weaker}
 use Rattle.std.proofs.shelf.Tests.{cases-eq, cases-lt}
 use Rattle.lags.specs.declared.Lag.{Lag}
 use Rattle.lags.specs.Solved.{at, Inside}
-use Rattle.lags.specs.Progress.{lag-at, no-lag, RaisedBy, Progress}
-use Rattle.lags.specs.Traced.{Overrun, parent, Traced, Chased, Circle, Placed, Tracing}
+use Rattle.lags.specs.Progress.{no-lag, RaisedBy}
+use Rattle.lags.specs.Traced.{Overrun, parent, OverrunTrace, ParentCycle, Placed, Tracing}
 use Rattle.lags.proofs.Traces.{raised-ends, traced-none, traced-more, traced-round}
 use Rattle.lags.proofs.Marks.{ends-most, ends-below}
 
@@ -52,42 +52,42 @@ placed-more xs places x b q = record {
 unplaced : (xs places : List ℕ) (x : ℕ) → Placed xs places → at places x ≡ 0 → All (λ y. y ≡ x → ⊥) xs
 unplaced xs places x q z = all-weaker (λ y. 0 < at places y) (λ y. y ≡ x → ⊥) (λ y h e. omega (arith, h, z, ap (at places) e)) xs (q .seen)
 
-pub chased-none : (lags : List Lag) (p : ℕ → ℕ) (v : ℕ) → Overrun lags p v → Chased lags p v [] v
-chased-none lags p v o = record {
+pub overrun-trace-none : (lags : List Lag) (p : ℕ → ℕ) (v : ℕ) → Overrun lags p v → OverrunTrace lags p v [] v
+overrun-trace-none lags p v o = record {
   over = o;
   traced = traced-none lags p (o .a) (o .progress .when) v;
   late = omega (arith, o .moved);
 }
 
-module _ (lags : List Lag) (p : ℕ → ℕ) (v : ℕ) (xs : List ℕ) (x : ℕ) (c : Chased lags p v xs x) where
+module _ (lags : List Lag) (p : ℕ → ℕ) (v : ℕ) (xs : List ℕ) (x : ℕ) (c : OverrunTrace lags p v xs x) where
   was-raised : 0 < c .over .progress .when x
   was-raised =
       let e = raised-ends lags p (c .over .a) (c .over .progress .when) xs (c .traced .raised) in
       omega (arith, c .late, mul-le-mul-right (length lags) (ends-most lags (c .over .m) (c .over .ends) xs e (c .traced .distinct)))
 
-  pub chased-named : p x < length lags
-  chased-named = c .over .progress .named x was-raised
+  pub overrun-trace-named : p x < length lags
+  overrun-trace-named = c .over .progress .named x was-raised
 
   module _ (places : List ℕ) (q : Placed xs places) where
-    pub chased-more : at places x ≡ 0 → Chased lags p v (xs ++ x ∷ []) (parent lags p x .from)
-    chased-more z =
+    pub overrun-trace-more : at places x ≡ 0 → OverrunTrace lags p v (xs ++ x ∷ []) (parent lags p x .from)
+    overrun-trace-more z =
         let r : RaisedBy (c .over .a) (c .over .progress .when) (length lags) x (parent lags p x) = c .over .progress .parent x was-raised in
         record {
           over = c .over;
-          traced = traced-more lags p (c .over .a) (c .over .progress .when) v xs x (c .traced) (record { named = chased-named; raised = r }) (unplaced xs places x q z);
+          traced = traced-more lags p (c .over .a) (c .over .progress .when) v xs x (c .traced) (record { named = overrun-trace-named; raised = r }) (unplaced xs places x q z);
           late = rw (length-push xs x)
               (⊎-elim (λ h. omega (arith, c .late, r .since h)) (λ h. omega (arith, c .late)) (cases-lt (length lags) (c .over .progress .when x)));
         }
 
     -- there is room for one more node
-    pub chased-room : at places x ≡ 0 → (n : ℕ) → All (Inside n) lags → length xs < n
-    chased-room z n a =
-        let d = chased-more z in
+    pub overrun-trace-room : at places x ≡ 0 → (n : ℕ) → All (Inside n) lags → length xs < n
+    overrun-trace-room z n a =
+        let d = overrun-trace-more z in
         let e = raised-ends lags p (d .over .a) (d .over .progress .when) (xs ++ x ∷ []) (d .traced .raised) in
         omega (arith, ends-below lags n (all-weaker (Inside n) (λ g. g .to < n) (λ g h. h .1) lags a) (xs ++ x ∷ []) e (d .traced .distinct), length-push xs x)
 
-    pub chased-round : 0 < at places x → Circle lags p (drop (at places x - 1) xs)
-    chased-round h =
+    pub overrun-trace-round : 0 < at places x → ParentCycle lags p (drop (at places x - 1) xs)
+    overrun-trace-round h =
         let l : at places x - 1 < length xs = omega (arith, q .stands x h .0) in
         record {
           a = c .over .a;
@@ -100,30 +100,30 @@ module _ (lags : List Lag) (p : ℕ → ℕ) (v : ℕ) (xs : List ℕ) (x : ℕ)
 -- the same as the loop meets it
 pub tracing-none : (lags : List Lag) (parents : List ℕ) (v : ℕ) (nodes : List ℕ) → v < length parents → Overrun lags (at parents) v → Tracing lags parents v nodes (replicate 1024 0) 0 v
 tracing-none lags parents v nodes b o =
-    record { chased = chased-none lags (at parents) v o; placed = placed-none 1024; inside = b; room = omega arith; size = length-replicate {A = ℕ} 1024 0 }
+    record { trace = overrun-trace-none lags (at parents) v o; placed = placed-none 1024; inside = b; room = omega arith; size = length-replicate {A = ℕ} 1024 0 }
 
 module _ (lags : List Lag) (parents : List ℕ) (v : ℕ) (nodes places : List ℕ) (len x : ℕ) (t : Tracing lags parents v nodes places len x) where
   pub tracing-named : at parents x < length lags
-  tracing-named = chased-named lags (at parents) v (take len nodes) x (t .chased)
+  tracing-named = overrun-trace-named lags (at parents) v (take len nodes) x (t .trace)
 
   module _ (wide : length parents ≤ length nodes) where
     front : length (take len nodes) ≡ len
     front = length-take-le len nodes (omega (arith, t .room))
 
-    pub tracing-done : 0 < at places x → (at places x - 1 < len) × Circle lags (at parents) (between (at places x - 1) len nodes)
+    pub tracing-done : 0 < at places x → (at places x - 1 < len) × ParentCycle lags (at parents) (between (at places x - 1) len nodes)
     tracing-done h =
-        (omega (arith, front, t .placed .stands x h .0), rw (between-is nodes (at places x - 1) len) (chased-round lags (at parents) v (take len nodes) x (t .chased) places (t .placed) h))
+        (omega (arith, front, t .placed .stands x h .0), rw (between-is nodes (at places x - 1) len) (overrun-trace-round lags (at parents) v (take len nodes) x (t .trace) places (t .placed) h))
 
     module _ (inside : All (Inside (length parents)) lags) (z : at places x ≡ 0) where
       pub tracing-room : len < length parents
-      tracing-room = omega (arith, front, chased-room lags (at parents) v (take len nodes) x (t .chased) places (t .placed) z (length parents) inside)
+      tracing-room = omega (arith, front, overrun-trace-room lags (at parents) v (take len nodes) x (t .trace) places (t .placed) z (length parents) inside)
 
       pub tracing-more : length parents ≤ 1024 → Tracing lags parents v (set nodes len x) (set places x (len + 1)) (len + 1) (parent lags (at parents) x .from)
       tracing-more few =
           let l : len < length nodes = omega (arith, tracing-room) in
           let b : x < length places = omega (arith, t .inside, t .size) in
           record {
-            chased = rw (take-more-set nodes len x l) (chased-more lags (at parents) v (take len nodes) x (t .chased) places (t .placed) z);
+            trace = rw (take-more-set nodes len x l) (overrun-trace-more lags (at parents) v (take len nodes) x (t .trace) places (t .placed) z);
             placed = rw (take-more-set nodes len x l) (rw front at (placed-more (take len nodes) places x b (t .placed)));
             inside = all-getD (Inside (length parents)) lags (at parents x) no-lag tracing-named inside .0;
             room = omega (arith, tracing-room);
