@@ -8,3 +8,4 @@ pub mod Settlings
 pub mod Tabled
 pub mod Routings
 pub mod Meant
+pub mod Judgements

@@ -56,7 +56,7 @@ module _ (sheet : Sheet) where
   visits : (t : ℕ) → t < length ss → Visits b t (carrier-at t) (place-at t)
   visits t h = facts.visits-of sheet t (getD ss t no-stop) (nth-getD ss t no-stop h)
 
-  visited : (t c u : ℕ) → Visits b t c u → (t < length ss) × (carrier-at t ≡ c) × (place-at t ≡ u)
+  pub visited : (t c u : ℕ) → Visits b t c u → (t < length ss) × (carrier-at t ≡ c) × (place-at t ≡ u)
   visited t c u v =
       let h = facts.visits-within sheet t c u v in
       let o = facts.one-visit sheet t (carrier-at t) (place-at t) c u (visits t h) v in
@@ -134,7 +134,7 @@ module _ (sheet : Sheet) where
         let v = visited p (carrier-at t) (y .0 .place) (y .2 .here) in
         subst (λ u. Next b (carrier-at t) p u t (place-at t)) (sym (v .2)) (y .2)
 
-    previous : (c p u t v : ℕ) → Next b c p u t v → Previous lanes ss t p
+    pub previous : (c p u t v : ℕ) → Next b c p u t v → Previous lanes ss t p
     previous c p u t v on =
         let h = facts.visits-within sheet t c v (on .there) in
         facts.next-previous sheet c p u t v (getD ss t no-stop) (nth-getD ss t no-stop h) on
@@ -195,6 +195,42 @@ module _ (sheet : Sheet) where
               let off = next-of r p (l .0) (l .1) in
               let c = facts.one-visit sheet p (carrier-at r) (place-at p) (carrier-at t) (place-at p) (off .here) (on .here) .0 in
               e ∙ ap Some (one-after (carrier-at t) p (place-at p) r (place-at r) t (place-at t) (subst (λ n. Next b n p (place-at p) r (place-at r)) c off) on)
+
+      -- lags
+      leg-from : (s t : ℕ) → getD nexts s None ≡ Some t → (c u : ℕ) → Visits b s c u → Leg lanes b c s u t (place-at t) (getD times t 0)
+      leg-from s t e c u v =
+          let l = legs .next s t e in
+          let leg = leg-of t s (l .0) (l .1) in
+          let o = facts.one-visit sheet s (carrier-at t) (place-at s) c u (leg .next .here) v in
+          subst (λ w. Leg lanes b c s w t (place-at t) (getD times t 0)) (o .1) (subst (λ n. Leg lanes b n s (place-at s) t (place-at t) (getD times t 0)) (o .0) leg)
+
+      module _ (gap : Gaps) where
+        pub is-lag : (s t : ℕ) (w : ℤ) → Between gap ss times nexts ps s t w → Lag lanes gap b s t w
+        is-lag s t w l = ⊎-elim
+            (λ v. subst (Lag lanes gap b s t) (sym (v .weighs)) (travel (leg-of t s (v .within) (v .step))))
+            (λ v.
+            let k = v .0 in
+            let wt = v .2 in
+            let visit = first-visits k (v .1) in
+            let leg = leg-from (the k .«first_stop») s (wt .from-next) (the k .first) (the k .place) visit in
+            let second = subst (λ n. Visits b n (the k .second) (the k .place)) (sym (wt .to-second)) (second-visits k (v .1)) in
+            subst (Lag lanes gap b s t) (sym (wt .weighs)) (wait k (stands k (v .1)) leg second))
+            l
+
+        pub lag-is : (s t : ℕ) (w : ℤ) → Lag lanes gap b s t w → Between gap ss times nexts ps s t w
+        lag-is s t w (travel {c = c} {u = u} {v = v} {d = d} leg) =
+            let l = legged c s u t v d leg in
+            inl (record { within = l .within; step = l .step; weighs = ap pos (sym (l .takes)) })
+        lag-is t r w (wait k {first = first} {second = second} {s = s} {u = u} {v = v} {d = d} p leg visit) =
+            let f = found k first second u p in
+            let l = legged first s u t v d leg in
+            let i = first-is k first second u s p (leg .next .here) in
+            let j = second-is k first second u r p visit in
+            inr (k, f .within, record {
+              from-next = ap (λ n. getD nexts n None) i ∙ next-in t s (l .within) (l .step);
+              to-second = sym j;
+              weighs = let x = f .its-place in let y = l .to-place in let z = l .takes in (cc);
+            })
 
       module _ (leads : List Bool) (marks : Leads ps (length ps) leads) where
         -- who goes first
@@ -287,3 +323,53 @@ module _ (sheet : Sheet) where
                 (λ (l : s < r). none s r (record { later = l; within = at-r .0; meet = (place, apart); not-first = f; not-second = g }))
                 (λ (l : r < s). none r s (record { later = l; within = at-s .0; meet = (sym place, λ q. apart (sym q)); not-first = g; not-second = f })))
                 (cases-order s r)
+
+        -- stops that are set head on
+        pub opposed : (s t : ℕ) → Opposed-below ss nexts leads ps (length ps) s t → Opposed lanes b s t
+        opposed s t (k, h, o) =
+            let q = the k .«second_stop» in
+            let e = the k .first in
+            let c = the k .second in
+            let v = the k .place in
+            let at-t : Visits b t e v = subst (λ n. Visits b n e v) (o .from-first) (first-visits k h) in
+            let at-q = second-visits k h in
+            let q-in = visited q c v at-q in
+            let coming = leg-of q s (q-in .0) (o .from-second) in
+            let s-leg : Leg lanes b c s (place-at s) q v (getD times q 0) =
+              subst (λ x. Leg lanes b c s (place-at s) q x (getD times q 0)) (q-in .2) (subst (λ n. Leg lanes b n s (place-at s) q (place-at q) (getD times q 0)) (q-in .1) coming) in
+            let going = leg-from t (o .target) (o .goes) e v at-t in
+            let t-leg : Leg lanes b e t v (o .target) (place-at s) (getD times (o .target) 0) = subst (λ x. Leg lanes b e t v (o .target) x (getD times (o .target) 0)) (o .arrives) going in
+            let s-in = visited s c (place-at s) (s-leg .next .here) in
+            let e-few : e < 64 = let t-in = visited t e v at-t in subst (λ n. n < 64) (t-in .1) (few t (t-in .0)) in
+            let f = first-of s e (s-in .0) e-few (o .first-there) in
+            record {
+              c = c;
+              e = e;
+              u = place-at s;
+              v = v;
+              s-goes = (q, getD times q 0, s-leg);
+              t-goes = (o .target, getD times (o .target) 0, t-leg);
+              first-at-u = (f .0, subst (λ n. Stands b (f .0) n e (place-at s)) (s-in .1) (f .1));
+              first-at-v = (k, stands k h);
+            }
+
+        pub opposed-at : (s t : ℕ) → Opposed lanes b s t → Opposed-below ss nexts leads ps (length ps) s t
+        opposed-at s t o =
+            let k = o .first-at-v .0 in
+            let at-v = o .first-at-v .1 in
+            let f = found k (o .e) (o .c) (o .v) at-v in
+            let s-leg = o .s-goes .2 in
+            let t-leg = o .t-goes .2 in
+            let s-in = legged (o .c) s (o .u) (o .s-goes .0) (o .v) (o .s-goes .1) s-leg in
+            let t-in = legged (o .e) t (o .v) (o .t-goes .0) (o .u) (o .t-goes .1) t-leg in
+            let i = first-is k (o .e) (o .c) (o .v) t at-v (t-leg .next .here) in
+            let j = second-is k (o .e) (o .c) (o .v) (o .s-goes .0) at-v (s-leg .next .there) in
+            let m = leads-of (o .first-at-u .0) (o .c) (o .e) (o .u) s (o .first-at-u .1) (s-leg .next .here) in
+            (k, f .within, record {
+              from-first = i;
+              from-second = subst (λ n. getD ss n no-stop .previous ≡ Some s) (sym j) (s-in .step);
+              target = o .t-goes .0;
+              goes = next-in (o .t-goes .0) t (t-in .within) (t-in .step);
+              arrives = t-in .to-place ∙ sym (s-in .from-place);
+              first-there = subst (λ n. leads-at leads s n ≡ true) (sym (f .its-first)) m;
+            })
