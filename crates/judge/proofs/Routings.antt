@@ -59,3 +59,7 @@ module _ (lanes : ℕ → ℕ → Option ℕ) (gap : ℕ → ℕ → ℕ → ℕ
       let w = h .settles in
       let l = ap length (w .written) ∙ length-append (w .stops) (drop (length (w .stops)) (p .ring)) in
       omega (arith, l, w .long)
+
+-- the same of lists that are equal
+pub routed-same : (lanes : ℕ → ℕ → Option ℕ) (gap : ℕ → ℕ → ℕ → ℕ) (most : ℕ) (p : Pages) (r : Result ℕ JudgeRefusal) (stops ss : List Stop) (precedences ps : List Precedence) → stops ≡ ss → precedences ≡ ps → Routed lanes gap most stops precedences p r → Routed lanes gap most ss ps p r
+routed-same lanes gap most p r stops ss precedences ps e f h = subst (λ xs. Routed lanes gap most ss xs p r) f (subst (λ xs. Routed lanes gap most xs precedences p r) e h)

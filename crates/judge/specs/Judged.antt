@@ -28,6 +28,15 @@ pub record Judging : Type 0 where
   pub pages : Pages
   pub answer : Result ℕ JudgeRefusal
 
+abbrev pub judging-of : Lanes → Gaps → ℕ → List ℕ → List ℕ → List ℕ → List ℕ → Result ℕ JudgeRefusal → Judging
+judging-of lanes gap largest timetable ring timetable′ ring′ r = record {
+  lanes = lanes;
+  gap = gap;
+  largest = largest;
+  pages = record { timetable = timetable; ring = ring; timetable-after = timetable′; ring-after = ring′ };
+  answer = r;
+}
+
 -- the carrier's route has not reached its goal
 pub record Away (b : Book) (c : ℕ) : Type 0 where
   pub goal : ℕ

@@ -6,3 +6,4 @@ pub mod Waits
 pub mod Settling
 pub mod Routing
 pub mod Judged
+pub mod Histories

@@ -6,6 +6,12 @@ ghost use lib.ListN.{drop, getD, length};
 ghost use Rattle.judge.specs.Legs.{NextsInside};
 ghost use Rattle.std.specs.Results.{Cases as ByOk};
 ghost use Rattle.judge.specs.Routing.{Precedences-clear, Precedences-refused, Routed};
+ghost use Rattle.judge.specs.Histories.{Event, Lawful};
+ghost use Rattle.judge.specs.Histories.Event.{judged};
+ghost use Rattle.judge.specs.Judged.{Judged, Passes-exactly, judging-of};
+ghost use Rattle.sheet.specs.Histories.{History};
+ghost use Rattle.sheet.specs.Histories.History.{_▹_};
+ghost use Rattle.sheet.specs.Sheets.{sheet-book};
 ghost use Rattle.judge.specs.Settling.{Settles, Within};
 ghost use Rattle.judge.specs.Waits.{Between, Consistent, Ready};
 use crate::legs::check_goals;
@@ -107,7 +113,9 @@ fn judge_routes<Y: Yard, R: FollowingRule>(
     settle(rule, precedences, stops, times, nexts, timetable, ring)
 }
 
-// Judges the sheet in the yard under the rule.
+// Judges the sheet in the yard under the rule. A pass answers the number of stops, and the first so many numbers of the
+// timetable are then the earliest arrivals; a ring answers its length, and the first so many numbers of the ring page
+// are then its stops. Everything else on the two pages stands, and so does the sheet.
 pub fn judge<Y: Yard, R: FollowingRule>(
     sheet: &Sheet,
     yard: &Y,
@@ -115,6 +123,9 @@ pub fn judge<Y: Yard, R: FollowingRule>(
     timetable: &mut [u32],
     ring: &mut [u16],
 ) -> Result<u16, JudgeRefusal>
+    ensures judges { λ r. ⌜ Judged (judging-of (Y·Yard .lanes (now (yard .entry))) (R·FollowingRule .gaps (now (rule .entry))) (R·FollowingRule .largest) (now (timetable .entry)) (now (ring .entry)) (now (timetable .exit)) (now (ring .exit)) r) (sheet-book (now (sheet .entry))) ⌝ }
+    ensures exactly { λ r. ⌜ Passes-exactly (judging-of (Y·Yard .lanes (now (yard .entry))) (R·FollowingRule .gaps (now (rule .entry))) (R·FollowingRule .largest) (now (timetable .entry)) (now (ring .entry)) (now (timetable .exit)) (now (ring .exit)) r) (sheet-book (now (sheet .entry))) ⌝ }
+    ensures goes_on { λ r. ⌜ ((h : History Event) → Lawful h (sheet-book (now (sheet .entry))) → Lawful (h ▹ judged (judging-of (Y·Yard .lanes (now (yard .entry))) (R·FollowingRule .gaps (now (rule .entry))) (R·FollowingRule .largest) (now (timetable .entry)) (now (ring .entry)) (now (timetable .exit)) (now (ring .exit)) r)) (sheet-book (now (sheet .entry)))) ⌝ }
     ensures within { λ r. ⌜ Within (length (now (timetable .entry))) (length (now (ring .entry))) r ⌝ }
 {
     let stops = sheet.stops();
