@@ -86,11 +86,11 @@ module _ (sheet : Sheet) (lanes : Lanes) (gap : Gaps) (largest : ℕ) (limited :
       let β : ℕ → ℕ = λ t. cond (eqb t s) 0 (α t) in
       let low : (t : ℕ) → β t ≤ α t = λ t. ⊎-elim (λ e. rw (eq-eqb t s e) (omega arith)) (λ ne. rw (ne-eqb t s ne) (omega arith)) (cases-eq t s) in
       let kept : Solution (Lag lanes gap b) β = λ r t w lag.
-        let ne : t ≡ s → ⊥ = λ e. no-lag-to-start r t w lag c u (subst (λ n. Starts b c n u) (sym e) at) in
-        let same : β t ≡ α t = rw (ne-eqb t s ne) in
-        let k = keeps r t w lag in
-        let l = low r in
-        omega (arith, ints) in
+      let ne : t ≡ s → ⊥ = λ e. no-lag-to-start r t w lag c u (subst (λ n. Starts b c n u) (sym e) at) in
+      let same : β t ≡ α t = rw (ne-eqb t s ne) in
+      let k = keeps r t w lag in
+      let l = low r in
+      omega (arith, ints) in
       let z : β s ≡ 0 = rw (eq-eqb s s refl) in
       let l = least β kept s in
       omega arith
@@ -142,10 +142,11 @@ module _ (sheet : Sheet) (lanes : Lanes) (gap : Gaps) (largest : ℕ) (limited :
         -- the lowest stops that are set head on
         opposed-lowest : (s t : ℕ) → LowestOpposed ss nexts leads ps (length ps) (Some (s, t)) → LowestPair (Opposed lanes b) s t
         opposed-lowest s t (small, small-too, here, lowest) =
-            let at = meant.opposed-at sheet lanes times nexts legs leads marks in
-            (meant.opposed sheet lanes times nexts legs leads marks s t here,
-            λ r q h o. let n = lowest r q (at r q o) in omega (arith, n .0),
-            λ q h o. let n = lowest s q (at s q o) in let m = n .1 refl in omega arith)
+            let at = meant.opposed-at sheet lanes times nexts legs leads marks in (
+              meant.opposed sheet lanes times nexts legs leads marks s t here,
+              λ r q h o. let n = lowest r q (at r q o) in omega (arith, n .0),
+              λ q h o. let n = lowest s q (at s q o) in let m = n .1 refl in omega arith,
+            )
 
         opposed-excludes : (s t : ℕ) → Opposed lanes b s t → Possible lanes gap b → ⊥
         opposed-excludes s t o (α, good) = decide-in lanes gap b positive orderly .opposed-none s t o α good
@@ -201,42 +202,56 @@ module _ (sheet : Sheet) (lanes : Lanes) (gap : Gaps) (largest : ℕ) (limited :
       refused (NotAtGoal c) d = absurd (d .refused .refused)
       refused (NoLane t) d = absurd (d .refused .refused)
       refused (Undecided s t) d =
-          let r = d .refused in
-          (long f, all-home home, all-on-lanes home (d .times) (d .nexts) (d .legs),
-          lowest-pair-as (Open-meeting ss (r .leads)) (Undecided-at b)
-          (meant.undecided sheet lanes (d .times) (d .nexts) (d .legs) (r .leads) (r .marks))
-          (meant.open-meeting sheet lanes (d .times) (d .nexts) (d .legs) (r .leads) (r .marks)) s t (r .refused), d .untouched)
+          let r = d .refused in (
+            long f,
+            all-home home,
+            all-on-lanes home (d .times) (d .nexts) (d .legs),
+            lowest-pair-as (Open-meeting ss (r .leads)) (Undecided-at b)
+                (meant.undecided sheet lanes (d .times) (d .nexts) (d .legs) (r .leads) (r .marks))
+                (meant.open-meeting sheet lanes (d .times) (d .nexts) (d .legs) (r .leads) (r .marks)) s t (r .refused),
+            d .untouched,
+          )
       refused (HeadOn s t) d =
           let r = d .refused in
-          let low = opposed-lowest home (d .times) (d .nexts) (d .legs) (r .leads) (r .marks) (r .refused .0) s t (r .refused .1) in
-          (long f, complete home (d .times) (d .nexts) (d .legs) (r .leads) (r .marks) (r .refused .0), low,
-          opposed-excludes home (d .times) (d .nexts) (d .legs) (r .leads) (r .marks) (r .refused .0) s t (low .0), d .untouched)
+          let low = opposed-lowest home (d .times) (d .nexts) (d .legs) (r .leads) (r .marks) (r .refused .0) s t (r .refused .1) in (
+            long f,
+            complete home (d .times) (d .nexts) (d .legs) (r .leads) (r .marks) (r .refused .0),
+            low,
+            opposed-excludes home (d .times) (d .nexts) (d .legs) (r .leads) (r .marks) (r .refused .0) s t (low .0),
+            d .untouched,
+          )
       refused (Ring k) d = absurd (d .refused .refused)
 
       passed : (n : ℕ) → Worked-out lanes gap (max 36000 largest) ss ps p (Ok n) → Judged (judging (Ok n)) b
       passed n w =
           let c = w .clear in
           let t = w .settles .1 in
-          let E = earliest home (w .times) (w .nexts) (w .legs) (c .leads) (c .marks) (c .decided) (c .none-opposed) (λ s. getD (t .times) s 0) (t .least) in
-          (long f, complete home (w .times) (w .nexts) (w .legs) (c .leads) (c .marks) (c .decided), ((λ s. getD (t .times) s 0), E .good), record {
-            all-stops = w .settles .0 ∙ sym stops-long;
-            times = t .times;
-            one-each = t .one-each ∙ sym stops-long;
-            written = t .written;
-            earliest = E;
-            ceiling = λ s. subst (λ m. getD (t .times) s 0 ≤ (m - 1) * max 36000 largest) (sym stops-long) (t .low s);
-            ring-stands = t .ring-stands;
-          })
+          let E = earliest home (w .times) (w .nexts) (w .legs) (c .leads) (c .marks) (c .decided) (c .none-opposed) (λ s. getD (t .times) s 0) (t .least) in (
+            long f,
+            complete home (w .times) (w .nexts) (w .legs) (c .leads) (c .marks) (c .decided),
+            ((λ s. getD (t .times) s 0), E .good),
+            record {
+              all-stops = w .settles .0 ∙ sym stops-long;
+              times = t .times;
+              one-each = t .one-each ∙ sym stops-long;
+              written = t .written;
+              earliest = E;
+              ceiling = λ s. subst (λ m. getD (t .times) s 0 ≤ (m - 1) * max 36000 largest) (sym stops-long) (t .low s);
+              ring-stands = t .ring-stands;
+            },
+          )
 
       circular : (k : ℕ) → Worked-out lanes gap (max 36000 largest) ss ps p (Err (Ring k)) → Judged (judging (Err (Ring k))) b
       circular k w =
           let c = w .clear in
           let r = w .settles in
-          let ring = ringed home (w .times) (w .nexts) (w .legs) (c .leads) (c .marks) (c .decided) (c .none-opposed) (r .stops) (r .ring) in
-          (long f, complete home (w .times) (w .nexts) (w .legs) (c .leads) (c .marks) (c .decided),
-          none-opposed home (w .times) (w .nexts) (w .legs) (c .leads) (c .marks) (c .decided) (c .none-opposed),
-          impossible home (w .times) (w .nexts) (w .legs) (c .leads) (c .marks) (c .decided) (c .none-opposed) (r .stops) ring,
-          record { stops = r .stops; long = r .long; ring = ring; written = r .written; timetable-stands = r .timetable-stands })
+          let ring = ringed home (w .times) (w .nexts) (w .legs) (c .leads) (c .marks) (c .decided) (c .none-opposed) (r .stops) (r .ring) in (
+            long f,
+            complete home (w .times) (w .nexts) (w .legs) (c .leads) (c .marks) (c .decided),
+            none-opposed home (w .times) (w .nexts) (w .legs) (c .leads) (c .marks) (c .decided) (c .none-opposed),
+            impossible home (w .times) (w .nexts) (w .legs) (c .leads) (c .marks) (c .decided) (c .none-opposed) (r .stops) ring,
+            record { stops = r .stops; long = r .long; ring = ring; written = r .written; timetable-stands = r .timetable-stands },
+          )
 
       pub judged-routed : (r : Result ℕ JudgeRefusal) → Routed lanes gap (max 36000 largest) ss ps p r → Judged (judging r) b
       judged-routed (Ok n) w = passed n w
@@ -258,21 +273,21 @@ exactly j b judged = go (j .answer) refl
     go (Ok n) e = λ l c. let w : Answers j b (Ok n) = subst (Answers j b) e judged in (λ _. w .2, λ _. rw e)
     go (Err PageTooShort) e = λ l c. let w : Answers j b (Err PageTooShort) = subst (Answers j b) e judged in absurd (w .0 l)
     go (Err (NotAtGoal k)) e = λ l c.
-      let w : Answers j b (Err (NotAtGoal k)) = subst (Answers j b) e judged in
-      let a = w .1 .0 in
-      absurd (a .not-reached (c .home k (a .goal) (a .its-goal)))
+        let w : Answers j b (Err (NotAtGoal k)) = subst (Answers j b) e judged in
+        let a = w .1 .0 in
+        absurd (a .not-reached (c .home k (a .goal) (a .its-goal)))
     go (Err (NoLane t)) e = λ l c.
-      let w : Answers j b (Err (NoLane t)) = subst (Answers j b) e judged in
-      let o = w .2 .0 in
-      let d = c .on-lanes (o .c) (o .s) (o .u) t (o .v) (o .step) in
-      absurd (not-some (d .0) (sym (d .1) ∙ o .no-lane))
+        let w : Answers j b (Err (NoLane t)) = subst (Answers j b) e judged in
+        let o = w .2 .0 in
+        let d = c .on-lanes (o .c) (o .s) (o .u) t (o .v) (o .step) in
+        absurd (not-some (d .0) (sym (d .1) ∙ o .no-lane))
     go (Err (Undecided s t)) e = λ l c.
-      let w : Answers j b (Err (Undecided s t)) = subst (Answers j b) e judged in
-      let o = w .3 .0 in
-      absurd (o .nobody-first (c .decided (o .c) (o .e) s t (o .u) (o .other) (o .here) (o .there)))
+        let w : Answers j b (Err (Undecided s t)) = subst (Answers j b) e judged in
+        let o = w .3 .0 in
+        absurd (o .nobody-first (c .decided (o .c) (o .e) s t (o .u) (o .other) (o .here) (o .there)))
     go (Err (HeadOn s t)) e = λ l c.
-      let w : Answers j b (Err (HeadOn s t)) = subst (Answers j b) e judged in
-      (λ ok. absurd (no-ok (HeadOn s t) (sym (ap isOk e) ∙ ok)), λ possible. absurd (w .3 possible))
+        let w : Answers j b (Err (HeadOn s t)) = subst (Answers j b) e judged in
+        (λ ok. absurd (no-ok (HeadOn s t) (sym (ap isOk e) ∙ ok)), λ possible. absurd (w .3 possible))
     go (Err (Ring k)) e = λ l c.
-      let w : Answers j b (Err (Ring k)) = subst (Answers j b) e judged in
-      (λ ok. absurd (no-ok (Ring k) (sym (ap isOk e) ∙ ok)), λ possible. absurd (w .3 possible))
+        let w : Answers j b (Err (Ring k)) = subst (Answers j b) e judged in
+        (λ ok. absurd (no-ok (Ring k) (sym (ap isOk e) ∙ ok)), λ possible. absurd (w .3 possible))

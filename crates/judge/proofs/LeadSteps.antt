@@ -23,9 +23,9 @@ leads-more ps n leads inside in-ps long old =
       marked = λ k h. ⊎-elim
           (λ e. ap (λ i. getD (set leads at true) i false) e ∙ getD-set-same leads at true false fits)
           (λ ne. getD-set-other leads at (getD ps k no-precedence .«first_stop» * 64 + getD ps k no-precedence .second) true false ne ∙ old .marked k (⊎-elim
-            (λ q. absurd (ne (ap (λ i. getD ps i no-precedence .«first_stop» * 64 + getD ps i no-precedence .second) q)))
-            (λ q. omega arith)
-            (cases-eq k n)))
+          (λ q. absurd (ne (ap (λ i. getD ps i no-precedence .«first_stop» * 64 + getD ps i no-precedence .second) q)))
+          (λ q. omega arith)
+          (cases-eq k n)))
           (cases-eq (getD ps k no-precedence .«first_stop» * 64 + getD ps k no-precedence .second) at);
       meant = λ s c small e. ⊎-elim
           (λ q. (n, omega arith, omega (arith, here .1), omega (arith, here .1)))

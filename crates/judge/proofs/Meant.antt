@@ -121,10 +121,12 @@ module _ (sheet : Sheet) where
   short c a =
       let f = facts.goes-from sheet c (a .its-goal .0) (a .goal) (a .its-goal .1) in
       let h = nth-within cs c (f .0) (f .1) in
-      let same : getD cs c no-carrier ≡ f .0 = let x = nth-getD cs c no-carrier h in let y = f .1 in (cc) in
-      (h, λ e.
-      let at : f .0 .«last_place» ≡ f .0 .goal = sym (ap (λ (x : Carrier). x .«last_place») same) ∙ (e ∙ ap (λ (x : Carrier). x .goal) same) in
-      a .not-reached (f .0 .«last_stop», subst (λ v. Visits b (f .0 .«last_stop») c v) (f .3) (facts.stops-at-goal sheet c (f .0) (f .1) at)))
+      let same : getD cs c no-carrier ≡ f .0 = let x = nth-getD cs c no-carrier h in let y = f .1 in (cc) in (
+        h,
+        λ e.
+            let at : f .0 .«last_place» ≡ f .0 .goal = sym (ap (λ (x : Carrier). x .«last_place») same) ∙ (e ∙ ap (λ (x : Carrier). x .goal) same) in
+            a .not-reached (f .0 .«last_stop», subst (λ v. Visits b (f .0 .«last_stop») c v) (f .3) (facts.stops-at-goal sheet c (f .0) (f .1) at)),
+      )
 
   module _ (lanes : Lanes) where
     -- steps
@@ -226,11 +228,15 @@ module _ (sheet : Sheet) where
             let l = legged first s u t v d leg in
             let i = first-is k first second u s p (leg .next .here) in
             let j = second-is k first second u r p visit in
-            inr (k, f .within, record {
-              from-next = ap (λ n. getD nexts n None) i ∙ next-in t s (l .within) (l .step);
-              to-second = sym j;
-              weighs = let x = f .its-place in let y = l .to-place in let z = l .takes in (cc);
-            })
+            inr (
+              k,
+              f .within,
+              record {
+                from-next = ap (λ n. getD nexts n None) i ∙ next-in t s (l .within) (l .step);
+                to-second = sym j;
+                weighs = let x = f .its-place in let y = l .to-place in let z = l .takes in (cc);
+              },
+            )
 
       module _ (leads : List Bool) (marks : Leads ps (length ps) leads) where
         -- who goes first
@@ -336,7 +342,7 @@ module _ (sheet : Sheet) where
             let q-in = visited q c v at-q in
             let coming = leg-of q s (q-in .0) (o .from-second) in
             let s-leg : Leg lanes b c s (place-at s) q v (getD times q 0) =
-              subst (λ x. Leg lanes b c s (place-at s) q x (getD times q 0)) (q-in .2) (subst (λ n. Leg lanes b n s (place-at s) q (place-at q) (getD times q 0)) (q-in .1) coming) in
+            subst (λ x. Leg lanes b c s (place-at s) q x (getD times q 0)) (q-in .2) (subst (λ n. Leg lanes b n s (place-at s) q (place-at q) (getD times q 0)) (q-in .1) coming) in
             let going = leg-from t (o .target) (o .goes) e v at-t in
             let t-leg : Leg lanes b e t v (o .target) (place-at s) (getD times (o .target) 0) = subst (λ x. Leg lanes b e t v (o .target) x (getD times (o .target) 0)) (o .arrives) going in
             let s-in = visited s c (place-at s) (s-leg .next .here) in
@@ -364,12 +370,15 @@ module _ (sheet : Sheet) where
             let t-in = legged (o .e) t (o .v) (o .t-goes .0) (o .u) (o .t-goes .1) t-leg in
             let i = first-is k (o .e) (o .c) (o .v) t at-v (t-leg .next .here) in
             let j = second-is k (o .e) (o .c) (o .v) (o .s-goes .0) at-v (s-leg .next .there) in
-            let m = leads-of (o .first-at-u .0) (o .c) (o .e) (o .u) s (o .first-at-u .1) (s-leg .next .here) in
-            (k, f .within, record {
-              from-first = i;
-              from-second = subst (λ n. getD ss n no-stop .previous ≡ Some s) (sym j) (s-in .step);
-              target = o .t-goes .0;
-              goes = next-in (o .t-goes .0) t (t-in .within) (t-in .step);
-              arrives = t-in .to-place ∙ sym (s-in .from-place);
-              first-there = subst (λ n. leads-at leads s n ≡ true) (sym (f .its-first)) m;
-            })
+            let m = leads-of (o .first-at-u .0) (o .c) (o .e) (o .u) s (o .first-at-u .1) (s-leg .next .here) in (
+              k,
+              f .within,
+              record {
+                from-first = i;
+                from-second = subst (λ n. getD ss n no-stop .previous ≡ Some s) (sym j) (s-in .step);
+                target = o .t-goes .0;
+                goes = next-in (o .t-goes .0) t (t-in .within) (t-in .step);
+                arrives = t-in .to-place ∙ sym (s-in .from-place);
+                first-there = subst (λ n. leads-at leads s n ≡ true) (sym (f .its-first)) m;
+              },
+            )

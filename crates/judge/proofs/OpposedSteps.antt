@@ -33,12 +33,15 @@ lower-is a b r e = go (ltb (b .0) (a .0) || (eqb (b .0) (a .0) && ltb (b .1) (a 
         (inl s, (omega arith, λ k. omega arith), (grind (arith, tells), λ k. grind (arith, tells)))
 
 above-trans : (p q : ℕ × ℕ) (s t : ℕ) → NotAbove p (q .0) (q .1) → NotAbove q s t → NotAbove p s t
-above-trans p q s t a b = (omega arith, λ e.
-    let x : q .0 ≡ s = omega arith in
-    let y : p .0 ≡ q .0 = omega arith in
-    let u = a .1 y in
-    let v = b .1 x in
-    omega arith)
+above-trans p q s t a b = (
+  omega arith,
+  λ e.
+      let x : q .0 ≡ s = omega arith in
+      let y : p .0 ≡ q .0 = omega arith in
+      let u = a .1 y in
+      let v = b .1 x in
+      omega arith,
+)
 
 module _ (stops : List Stop) (nexts : List (Option ℕ)) (leads : List Bool) (ps : List Precedence) (n : ℕ) where
   abbrev At : ℕ → ℕ → Type 0
@@ -75,12 +78,17 @@ module _ (stops : List Stop) (nexts : List (Option ℕ)) (leads : List Bool) (ps
       let l = lower-is a p r is in
       let P : ℕ × ℕ → Type 0 = λ x. (x .0 < 1024) × (x .1 < 1024) × Opposed-below stops nexts leads ps (n + 1) (x .0) (x .1) in
       let one : P r = ⊎-elim
-          (λ q. subst P (sym q) (o .0, o .1, more (a .0) (a .1) (o .2)))
-          (λ q. subst P (sym q) (new .0, new .1, (n, omega arith, new .2)))
-          (l .0) in
-      rw e (one .0, one .1, one .2, λ s t q. split (NotAbove r s t) s t q
-        (λ k. above-trans r a s t (l .1) (o .3 s t k))
-        (λ k. let x = new .3 s t k in above-trans r p s t (l .2) (omega (arith, x .0), λ _. omega (arith, x .1))))
+      (λ q. subst P (sym q) (o .0, o .1, more (a .0) (a .1) (o .2)))
+      (λ q. subst P (sym q) (new .0, new .1, (n, omega arith, new .2)))
+      (l .0) in
+      rw e (
+        one .0,
+        one .1,
+        one .2,
+        λ s t q. split (NotAbove r s t) s t q
+            (λ k. above-trans r a s t (l .1) (o .3 s t k))
+            (λ k. let x = new .3 s t k in above-trans r p s t (l .2) (omega (arith, x .0), λ _. omega (arith, x .1))),
+      )
 
 pub opposed-all : (stops : List Stop) (nexts : List (Option ℕ)) (leads : List Bool) (ps : List Precedence) (n m : ℕ) (best : Option (ℕ × ℕ)) → n ≡ m → LowestOpposed stops nexts leads ps n best → LowestOpposed stops nexts leads ps m best
 opposed-all stops nexts leads ps n m best e o = subst (λ k. LowestOpposed stops nexts leads ps k best) e o

@@ -63,9 +63,10 @@ module _ (gap : ℕ → ℕ → ℕ → ℕ) (largest : ℕ) (small : largest �
       let next = ready .inside _ _ (wait .from-next) in
       let time = ready .timely _ _ (wait .from-next) in
       let here = ready .consistent .lawful k (w .1) in
-      let most = bounded (getD ps k no-precedence .place) (getD stops (g .from) no-stop .place) (getD times (g .from) 0) (time .0) (time .1) in
-      ((omega arith, omega (arith, wait .to-second, here .3)),
-      (weight-low (g .weight) _ _ (wait .weighs) (time .1), weight-most (g .weight) _ _ 100000 (wait .weighs) (time .0) (omega (arith, most)))))
+      let most = bounded (getD ps k no-precedence .place) (getD stops (g .from) no-stop .place) (getD times (g .from) 0) (time .0) (time .1) in (
+        (omega arith, omega (arith, wait .to-second, here .3)),
+        (weight-low (g .weight) _ _ (wait .weighs) (time .1), weight-most (g .weight) _ _ 100000 (wait .weighs) (time .0) (omega (arith, most))),
+      ))
       l
 
   pub fit : (n room′ : ℕ) → n ≡ length stops → count ≤ 3072 → length stops ≤ room′ → Fit gathered n room′
@@ -109,7 +110,7 @@ module _ (gap : ℕ → ℕ → ℕ → ℕ) (largest : ℕ) (small : largest �
     written = w;
     least = (
       solution-over (Between gap stops times nexts ps) (Listed gathered) to-listed (λ s. getD α s 0) (e .least .0),
-      λ β k v. e .least .1 β (solution-over (Listed gathered) (Between gap stops times nexts ps) from-listed β k) v
+      λ β k v. e .least .1 β (solution-over (Listed gathered) (Between gap stops times nexts ps) from-listed β k) v,
     );
     low = λ s. subst (λ m. getD α s 0 ≤ (m - 1) * max 36000 largest) n (e .ceiling (max 36000 largest) under s);
     ring-stands = r;
@@ -128,7 +129,7 @@ module _ (gap : ℕ → ℕ → ℕ → ℕ) (largest : ℕ) (small : largest �
     long = length-take-le k (p .ring-after) fits;
     ring = ring-over (Listed gathered) (Between gap stops times nexts ps) from-listed (take k (p .ring-after)) (l .ring);
     written =
-      sym (take-append-drop k (p .ring-after))
-      ∙ ap (λ xs. take k (p .ring-after) ++ xs) (l .stands ∙ ap (λ m. drop m (p .ring)) (sym (length-take-le k (p .ring-after) fits)));
+        sym (take-append-drop k (p .ring-after))
+        ∙ ap (λ xs. take k (p .ring-after) ++ xs) (l .stands ∙ ap (λ m. drop m (p .ring)) (sym (length-take-le k (p .ring-after) fits)));
     timetable-stands = t;
   }

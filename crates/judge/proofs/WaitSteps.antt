@@ -57,21 +57,21 @@ module _ (stops : List Stop) (times : List ℕ) (t count : ℕ) (lags : List Lag
   pub step-none : (count′ : ℕ) (lags′ : List Lag) → count′ ≡ count → lags′ ≡ lags → getD stops t no-stop .previous ≡ None → Lists (Travel stops times (t + 1)) count′ lags′
   step-none count′ lags′ e f none =
       rw (e, f) (lists-kept (Travel stops times t) (Travel stops times (t + 1)) count lags old travel-more
-        (λ g v. ⊎-elim
-          (λ q. absurd (not-some (g .from) (sym (v .step) ∙ (ap (λ m. getD stops m no-stop .previous) q ∙ none))))
-          (λ ne. record { within = omega (arith, v .within, ne); step = v .step; weighs = v .weighs })
-          (cases-eq (g .to) t)))
+      (λ g v. ⊎-elim
+      (λ q. absurd (not-some (g .from) (sym (v .step) ∙ (ap (λ m. getD stops m no-stop .previous) q ∙ none))))
+      (λ ne. record { within = omega (arith, v .within, ne); step = v .step; weighs = v .weighs })
+      (cases-eq (g .to) t)))
 
   -- a stop with one before it
   pub step-more : (count′ : ℕ) (lags′ : List Lag) (p : ℕ) (w : ℤ) → count′ ≡ count + 1 → lags′ ≡ set lags count (record { from = p; to = t; weight = w }) → w ≡ pos (getD times t 0) → count < length lags → getD stops t no-stop .previous ≡ Some p → Lists (Travel stops times (t + 1)) count′ lags′
   step-more count′ lags′ p w e f weighs fits comes =
       let g : Lag = record { from = p; to = t; weight = w } in
       rw (e, f) (lists-more (Travel stops times t) (Travel stops times (t + 1)) count lags old g fits travel-more
-        (record { within = omega arith; step = comes; weighs = weighs })
-        (λ h v. ⊎-elim
-          (λ q. inr (same-lag h p t w (let z = v .step in let y = ap (λ m. getD stops m no-stop .previous) q in (cc)) q (v .weighs ∙ (ap (λ m. pos (getD times m 0)) q ∙ sym weighs))))
-          (λ ne. inl (record { within = omega (arith, v .within, ne); step = v .step; weighs = v .weighs }))
-          (cases-eq (h .to) t)))
+      (record { within = omega arith; step = comes; weighs = weighs })
+      (λ h v. ⊎-elim
+      (λ q. inr (same-lag h p t w (let z = v .step in let y = ap (λ m. getD stops m no-stop .previous) q in (cc)) q (v .weighs ∙ (ap (λ m. pos (getD times m 0)) q ∙ sym weighs))))
+      (λ ne. inl (record { within = omega (arith, v .within, ne); step = v .step; weighs = v .weighs }))
+      (cases-eq (h .to) t)))
 
 pub travels-all : (stops : List Stop) (times : List ℕ) (n m count : ℕ) (lags : List Lag) → n ≡ m → Lists (Travel stops times n) count lags → Lists (Travel stops times m) count lags
 travels-all stops times n m count lags e l = subst (λ k. Lists (Travel stops times k) count lags) e l
@@ -105,14 +105,14 @@ module _ (gap : ℕ → ℕ → ℕ → ℕ) (stops : List Stop) (times : List �
     pub wait-none : (count′ : ℕ) (lags′ : List Lag) → count′ ≡ count → lags′ ≡ lags → getD nexts (getD ps m no-precedence .«first_stop») None ≡ None → Lists (LagOf gap stops times nexts ps n (m + 1)) count′ lags′
     wait-none count′ lags′ e f none =
         rw (e, f) (lists-kept (LagOf gap stops times nexts ps n m) (LagOf gap stops times nexts ps n (m + 1)) count lags old more
-          (λ g l. ⊎-elim (λ o. o) (λ b. absurd b) (back (λ _. ⊥) (λ h w. not-some (h .from) (sym (w .from-next) ∙ none)) g l)))
+        (λ g l. ⊎-elim (λ o. o) (λ b. absurd b) (back (λ _. ⊥) (λ h w. not-some (h .from) (sym (w .from-next) ∙ none)) g l)))
 
     -- a precedence with its lag
     pub wait-more : (count′ : ℕ) (lags′ : List Lag) (g : Lag) → count′ ≡ count + 1 → lags′ ≡ set lags count g → count < length lags → Waiting gap stops times nexts (getD ps m no-precedence) g → Lists (LagOf gap stops times nexts ps n (m + 1)) count′ lags′
     wait-more count′ lags′ g e f fits w =
         rw (e, f) (lists-more (LagOf gap stops times nexts ps n m) (LagOf gap stops times nexts ps n (m + 1)) count lags old g fits more
-          (inr (m, omega arith, w))
-          (back (λ h. h ≡ g) (λ h v. one-wait (getD ps m no-precedence) g h w v)))
+        (inr (m, omega arith, w))
+        (back (λ h. h ≡ g) (λ h v. one-wait (getD ps m no-precedence) g h w v)))
 
     pub waits-all : (m′ : ℕ) → m ≡ m′ → Lists (LagOf gap stops times nexts ps n m′) count lags
     waits-all m′ e = subst (λ k. Lists (LagOf gap stops times nexts ps n k) count lags) e old

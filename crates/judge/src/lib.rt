@@ -2,5 +2,5 @@
 pub mod judging;
 mod legs;
 mod meetings;
-mod waits;
 pub mod refusal;
+mod waits;

@@ -36,8 +36,8 @@ module _ (lanes : Lanes) (gap : Gaps) (b : Book) (positive : Positive lanes) (or
       let before : α s - d < α t = good .keeps k first second u o s v d t stands leg visits in
       let timed : α o + d ≤ α s = good .timed .travels first o u s v d leg in
       elim (decLt (α s - d + gap u v d) (α t)) [
-        yes late ↦ wait-up (α s) (α t) d (gap u v d) (omega arith)
-      | no soon ↦ absurd (good .free (following first second o u s v d t (orderly .differ k first second u stands) leg visits before (omega arith)))
+        | yes late ↦ wait-up (α s) (α t) d (gap u v d) (omega arith)
+        | no soon ↦ absurd (good .free (following first second o u s v d t (orderly .differ k first second u stands) leg visits before (omega arith)))
       ]
 
   -- where two stops are set head on, no plan is good
@@ -61,8 +61,8 @@ module _ (lanes : Lanes) (gap : Gaps) (b : Book) (positive : Positive lanes) (or
       let way : α s + d ≤ α q = good .timed .travels c s u q v d leg in
       let yaw : α t + d′ ≤ α r = good .timed .travels e t v r u d′ back in
       elim (decLt (α q) (α r)) [
-        yes h ↦ good .free (head-on c e s u q v d t r d′ (α q) other leg back (omega arith) (omega arith) (omega arith) (omega arith))
-      | no h ↦ good .free (head-on c e s u q v d t r d′ (α r) other leg back (omega arith) (omega arith) (omega arith) (omega arith))
+        | yes h ↦ good .free (head-on c e s u q v d t r d′ (α q) other leg back (omega arith) (omega arith) (omega arith) (omega arith))
+        | no h ↦ good .free (head-on c e s u q v d t r d′ (α r) other leg back (omega arith) (omega arith) (omega arith) (omega arith))
       ]
 
   module _ (α : ℕ → ℕ) (starts : From-zero b α) (kept : Solution (Lag lanes gap b) α) where

@@ -150,9 +150,7 @@ impl Session {
             Answer::Passed { stops } => {
                 write_passed(&self.timetable[0..stops as usize], page, 0)
             }
-            Answer::Ring { length } => {
-                write_ring(&self.ring[0..length as usize], page, 0)
-            }
+            Answer::Ring { length } => { write_ring(&self.ring[0..length as usize], page, 0) }
             Answer::Refused { refusal } => write_refusal(refusal, page),
         }
     }

@@ -37,7 +37,7 @@ returns-then-timetable-stops g c =
     let pages : Pages = record { timetable = c .args .timetable .now; ring = c .args .ring .now; timetable-after = c .args .timetable .now; ring-after = c .args .ring .now } in
     let long = ap length (c .stops-stops .ensures) in
     let J = judged-short own lanes gaps (g .R·FollowingRule .largest) (g .Y·Yard·met .limited _) pages
-      (λ f. ⊎-elim (λ a. omega (arith, f .0)) (λ a. omega (arith, f .1, a .1)) (c .then-timetable-stops .either)) (refl, refl) in
+    (λ f. ⊎-elim (λ a. omega (arith, f .0)) (λ a. omega (arith, f .1, a .1)) (c .then-timetable-stops .either)) (refl, refl) in
     record { judges = J; exactly = exactly (judging-of lanes gaps (g .R·FollowingRule .largest) (c .args .timetable .now) (c .args .ring .now) (c .args .timetable .now) (c .args .ring .now) (Err PageTooShort)) (sheet-book own) J; goes-on = λ h l. (sheet-book own, l, (J, refl)); within = tt }
 
 pub returns-in-Break-check-goals : need.returns-in-Break-check-goals
@@ -64,7 +64,7 @@ returns g c =
     let largest = g .R·FollowingRule .largest in
     let pages : Pages = record { timetable = c .args .timetable .now; ring = c .args .ring .now; timetable-after = c .judge-routes .last .timetable; ring-after = c .judge-routes .last .ring } in
     let routed : Routed lanes gaps (max 36000 largest) (vec-items (own .tables .stops)) (vec-items (own .tables .precedences)) pages (c .judge-routes .result) =
-      routed-same lanes gaps (max 36000 largest) pages (c .judge-routes .result) _ _ _ _ stops precedences (c .judge-routes .ensures) in
+    routed-same lanes gaps (max 36000 largest) pages (c .judge-routes .result) _ _ _ _ stops precedences (c .judge-routes .ensures) in
     let home : (k : ℕ) → Short-of-goal (vec-items (own .tables .carriers)) k → ⊥ = subst (λ xs. (k : ℕ) → Short-of-goal xs k → ⊥) carriers (c .in-Continue-check-goals .ensures tt) in
     let long = ap length stops in
     let J = judged-routed own lanes gaps largest (g .Y·Yard·met .limited _) pages (omega arith, omega arith) home (c .judge-routes .result) routed in

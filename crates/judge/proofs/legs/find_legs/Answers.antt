@@ -6,8 +6,8 @@ use Rattle.judge.proofs.legs.find_legs.Needs.{in-Some·in-Some-travel-time, in
 pub loop-i-again : need.loop-i-again
 loop-i-again g c = elim (c .match-previous-of .came) [
   | in-Some·in-Some-travel-time w ↦
-    let comes = w .in-Some .ensures tt in
-    legs-set _ _ _ _ _ (c .loop-i .inv) _ _ _ _ (w .times-is) (w .nexts-is) (comes .0) (w .in-Some-travel-time .ensures tt) (omega arith) (omega (arith, comes .1))
+      let comes = w .in-Some .ensures tt in
+      legs-set _ _ _ _ _ (c .loop-i .inv) _ _ _ _ (w .times-is) (w .nexts-is) (comes .0) (w .in-Some-travel-time .ensures tt) (omega arith) (omega (arith, comes .1))
   | in-rest w ↦ legs-kept _ _ _ _ _ (c .loop-i .inv) _ _ (w .times-is) (w .nexts-is) (w .in-rest .ensures tt)
 ]
 

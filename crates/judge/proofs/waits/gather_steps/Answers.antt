@@ -11,8 +11,8 @@ use Rattle.judge.proofs.waits.gather_steps.Needs.{in-Some, in-rest}
 pub loop-t-again : need.loop-t-again
 loop-t-again c = elim (c .match-previous-of .came) [
   | in-Some w ↦
-    let fits : SFits w32 (w .from .result) = search needs in
-    (omega (arith, w .count-is), step-more _ _ _ _ _ (c .loop-t .inv .1) _ _ _ _ (w .count-is) (w .lags-is) (toZ-ofZ w32 _ fits ∙ w .from .ensures) (omega arith) (w .in-Some .ensures tt .0))
+      let fits : SFits w32 (w .from .result) = search needs in
+      (omega (arith, w .count-is), step-more _ _ _ _ _ (c .loop-t .inv .1) _ _ _ _ (w .count-is) (w .lags-is) (toZ-ofZ w32 _ fits ∙ w .from .ensures) (omega arith) (w .in-Some .ensures tt .0))
   | in-rest w ↦ (omega (arith, w .count-is), step-none _ _ _ _ _ (c .loop-t .inv .1) _ _ (w .count-is) (w .lags-is) (w .in-rest .ensures tt))
 ]
 
