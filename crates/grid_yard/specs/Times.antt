@@ -6,7 +6,10 @@ use lib.Dec.{eqb, ltb}
 use Rattle.std.specs.declared.option.Option.{Option}
 use Rattle.std.specs.declared.option.Option.the-variants.{Some, None}
 use Rattle.grid_yard.specs.declared.plan.Plan.{Plan}
-use Rattle.grid_yard.specs.Cells.{bit-of, row-of, column-of}
+use Rattle.grid_yard.specs.Cells.{bit, bit-of, row-of, column-of}
+
+abbrev pub set-bit : ℕ → ℕ → Bool
+set-bit word k = eqb (bit word k) 1
 
 abbrev pub closed-cell : List ℕ → ℕ → Bool
 closed-cell words c = eqb (bit-of words c) 1

@@ -2,15 +2,23 @@
 ghost use mathlib.Core.Path.{_≡_};
 ghost use Prim.Native.Nat.{_*_, _<_, _≤_};
 ghost use lib.ListN.{length};
-ghost use Rattle.grid_yard.specs.Times.{adjacent, closed-cell, step};
+ghost use Rattle.grid_yard.specs.Times.{adjacent, closed-cell, set-bit, step};
 use crate::plan::Plan;
+
+// Whether bit k of the word is set, counted from the lowest.
+fn is_set(word: u64, k: u16) -> bool
+    requires { ⌜ k < 64 ⌝ }
+    ensures { λ r. ⌜ r ≡ set-bit word k ⌝ }
+{
+    (word >> k) & 1 == 1
+}
 
 // Whether the cell's bit is set.
 pub(crate) fn is_closed(words: &[u64], cell: u16) -> bool
     requires { ⌜ cell < 64 * length (now words) ⌝ }
     ensures { λ r. ⌜ r ≡ closed-cell (now (words .entry)) cell ⌝ }
 {
-    (words[(cell / 64) as usize] >> (cell % 64)) & 1 == 1
+    is_set(words[(cell / 64) as usize], cell % 64)
 }
 
 // Whether the two numbers differ by one.

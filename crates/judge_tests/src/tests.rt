@@ -146,7 +146,14 @@ fn worked_sheet_under_all_rules(rt: LibcRuntime) -> Result<(), Fail> {
     let sheet = worked_sheet(heap)?;
     let mut gap = FixedGap::new();
     check_pass(&sheet, &yard, &FullLane, &[0, 0, 8, 10, 14, 2, 7], heap, 0)?;
-    check_pass(&sheet, &yard, &LaneLessOne, &[0, 0, 7, 9, 13, 2, 7], heap, 3)?;
+    check_pass(
+        &sheet,
+        &yard,
+        &LaneLessOne,
+        &[0, 0, 7, 9, 13, 2, 7],
+        heap,
+        3,
+    )?;
     check_pass(&sheet, &yard, &gap, &[0, 0, 3, 5, 9, 2, 7], heap, 3)?;
     check(gap.set(1).is_ok())?;
     check_pass(&sheet, &yard, &gap, &[0, 0, 4, 6, 10, 2, 7], heap, 1)
@@ -197,7 +204,12 @@ fn not_home_and_no_lane(rt: LibcRuntime) -> Result<(), Fail> {
     check_eq(sheet.enter_stop(0, 1), Err(EntryRefusal::RouteAtGoal))?;
     check_pass(&sheet, &yard, &FullLane, &[0], heap, 0)?;
     check_eq(sheet.enter_carrier(0, 2), Ok(1))?;
-    check_refused(&sheet, &yard, &FullLane, JudgeRefusal::NotAtGoal { carrier: 1 })?;
+    check_refused(
+        &sheet,
+        &yard,
+        &FullLane,
+        JudgeRefusal::NotAtGoal { carrier: 1 },
+    )?;
     check_eq(sheet.enter_stop(1, 2), Ok(2))?;
     check_refused(&sheet, &yard, &FullLane, JudgeRefusal::NoLane { stop: 2 })
 }

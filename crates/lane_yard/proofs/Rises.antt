@@ -1,5 +1,6 @@
 -- What rising lanes keep: two lanes never join the same places, and a lane in the middle rules out those on one side.
-use mathlib.Core.Path.{_≡_, sym, ap, _∙_}
+use mathlib.Core.Path.{_≡_, refl, sym, ap, _∙_}
+use mathlib.Core.Bool.{Bool, true, false}
 use mathlib.Core.List.{List}
 use mathlib.Core.Logic.{_⊎_, ⊎-elim}
 use Prim.Native.Nat.{ℕ, zero, suc, _+_, _-_, _≤_, _<_}
@@ -9,11 +10,13 @@ use native.Mathlib.Omega.{arith}
 use native.Mathlib.Decide.{decLt}
 use lib.ListN.{length, getD, take, drop}
 use Rattle.std.proofs.shelf.Lists.{getD-take, getD-drop, length-take, length-drop}
+use Rattle.std.proofs.shelf.Tests.{both-ways}
+use Rattle.std.specs.Orderings.{Decides, When}
 use Rattle.std.specs.declared.option.Option.the-variants.{Some, None}
 use Rattle.keyed.specs.Search.{First, Nowhere}
 use Rattle.lane_yard.specs.declared.lane.Lane.{Lane}
 use Rattle.lane_yard.proofs.Times.{time-at, time-none}
-use Rattle.lane_yard.specs.Records.{no-lane, Before, Rising, Absent, Around, time-of}
+use Rattle.lane_yard.specs.Records.{lane, no-lane, Before, Rising, Absent, Around, time-of}
 
 -- each lane comes before each later one
 pub far : (xs : List Lane) → Rising xs → (i j : ℕ) → i < j → j < length xs → Before (getD xs i no-lane) (getD xs j no-lane)
@@ -28,7 +31,7 @@ far xs r i (suc j) lt within =
 
 module _ (xs : List Lane) (r : Rising xs) (f t : ℕ) where
   -- where the lane in the middle comes before the wanted one, so do those below it
-  pub not-below : (m z : ℕ) → m < length xs → Before (getD xs m no-lane) (record { from = f; to = t; time = z }) → Absent xs f t 0 (m + 1)
+  not-below : (m z : ℕ) → m < length xs → Before (getD xs m no-lane) (lane f t z) → Absent xs f t 0 (m + 1)
   not-below m z within b k lo hi p q =
       let le : k ≤ m = omega arith in
       ⊎-elim
@@ -45,10 +48,15 @@ module _ (xs : List Lane) (r : Rising xs) (f t : ℕ) where
       (eq-or-lt-of-le le)
 
   -- where it does not, none above it is the wanted one
-  pub not-above : (m z : ℕ) → m < length xs → (Before (getD xs m no-lane) (record { from = f; to = t; time = z }) → ⊥) → Absent xs f t (m + 1) (length xs)
+  not-above : (m z : ℕ) → m < length xs → (Before (getD xs m no-lane) (lane f t z) → ⊥) → Absent xs f t (m + 1) (length xs)
   not-above m z within nb k lo hi p q =
       let c = far xs r m k (omega arith) hi in
       nb (omega arith, λ e. let u = c .1 (omega arith) in omega arith)
+
+  -- so the order of the two says on which side the wanted one can stand
+  pub side : (m z : ℕ) → m < length xs → (r : Bool) → Decides r (Before (getD xs m no-lane) (lane f t z)) → When r (Absent xs f t 0 (m + 1)) (Absent xs f t (m + 1) (length xs))
+  side m z within true d = not-below m z within (d .0 refl)
+  side m z within false d = not-above m z within (λ b. both-ways _ refl (d .1 b))
 
   -- a lane that joins the places is the only one
   pub only : (i : ℕ) → i < length xs → getD xs i no-lane .from ≡ f → getD xs i no-lane .to ≡ t → time-of xs f t ≡ Some (getD xs i no-lane .time)

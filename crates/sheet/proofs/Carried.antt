@@ -1,20 +1,10 @@
 -- What a sheet carries, at its opening and after each call.
-use mathlib.Core.Path.{_≡_, refl, sym, ap, subst, _∙_}
-use mathlib.Core.List.{List, [], _∷_, _++_, map}
-use Prim.Native.Nat.{ℕ, _+_, _-_, _≤_, _<_}
-use native.Mathlib.Omega.{arith}
-use lib.ListN.{length, set}
-use Rattle.std.specs.Holes.{removed}
+use mathlib.Core.Path.{_≡_, sym, subst}
+use mathlib.Core.List.{[]}
 use Rattle.std.specs.Of.Vec.{vec-items, vec-len}
-use Rattle.std.specs.Runs.{nth}
-use Rattle.std.specs.declared.option.Option.the-variants.{Some, None}
-use Rattle.std.specs.declared.result.Result.the-variants.{Ok}
 use Rattle.std.proofs.iter.runs.Lists.{none-some}
-use Rattle.sheet.specs.declared.records.Carrier.{Carrier}
-use Rattle.sheet.specs.declared.records.Stop.{Stop}
-use Rattle.sheet.specs.declared.records.Precedence.{Precedence}
 use Rattle.sheet.specs.declared.sheets.Tables.{Tables}
-use Rattle.sheet.specs.Book.{Book, opened}
+use Rattle.sheet.specs.Book.{opened}
 use Rattle.sheet.specs.Records.{book-from, Numbered}
 use Rattle.sheet.specs.Sound.{Sound, Holds}
 use Rattle.sheet.specs.Tables.{book-of, Numbered-tables, CarriersInside, StopsInside, Linked, PrecedencesInside}

@@ -1,23 +1,21 @@
 -- The book after each accepted call, and what the sheet then carries.
-use mathlib.Core.Path.{_≡_, refl, sym, ap, subst, _∙_}
-use mathlib.Core.List.{List, [], _∷_, _++_, map}
-use Prim.Native.Nat.{ℕ, _+_, _-_, _≤_, _<_}
+use mathlib.Core.Path.{_≡_, sym, ap, subst, _∙_}
+use mathlib.Core.List.{[], _∷_, _++_, map}
+use Prim.Native.Nat.{ℕ, _+_, _<_}
 use native.Mathlib.Omega.{arith}
 use lib.ListN.{length, getD, set}
 use Rattle.std.specs.Holes.{removed}
 use Rattle.std.specs.Of.Vec.{vec-items, vec-len}
 use Rattle.std.specs.Runs.{nth}
 use Rattle.std.specs.declared.option.Option.the-variants.{Some, None}
-use Rattle.std.specs.declared.result.Result.the-variants.{Ok}
 use Rattle.std.proofs.shelf.Lists.{length-map, map-push, map-set}
 use Rattle.sheet.specs.declared.records.Carrier.{Carrier}
-use Rattle.sheet.specs.declared.records.Stop.{Stop}
 use Rattle.sheet.specs.declared.records.Precedence.{Precedence}
 use Rattle.sheet.specs.declared.sheets.Tables.{Tables}
-use Rattle.sheet.specs.Book.{Book, Visits}
+use Rattle.sheet.specs.Book.{Visits}
 use Rattle.sheet.specs.Calls.{Accepts, checks, with-carrier, with-stop, with-precedence, without-precedence}
 use Rattle.sheet.specs.Calls.Call.{enter-carrier, enter-stop, enter-precedence}
-use Rattle.sheet.specs.Records.{book-carrier, book-stop, book-precedence, book-from, Numbered, gone-on, no-carrier}
+use Rattle.sheet.specs.Records.{book-carrier, book-stop, book-precedence, gone-on, no-carrier}
 use Rattle.sheet.specs.Sound.{Sound, Holds}
 use Rattle.sheet.specs.Tables.{book-of, Numbered-tables, Only-goes-on}
 use Rattle.sheet.proofs.Carried.{Carries, carries}

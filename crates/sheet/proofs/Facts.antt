@@ -2,26 +2,25 @@
 use mathlib.Core.Path.{_≡_, refl, sym, ap, subst, _∙_}
 use mathlib.Core.List.{List}
 use mathlib.Core.Logic.{_⊎_, inl, inr, ⊎-elim, _≢_, ∥∥₁-elim}
-use Prim.Native.Nat.{ℕ, zero, suc, _+_, _≤_, _<_}
+use Prim.Native.Nat.{ℕ, zero, suc, _<_}
 use native.Mathlib.Nat.{ℕ-set}
 use native.Mathlib.Omega.{arith}
 use lib.ListN.{length, getD}
-use Rattle.std.specs.Of.Vec.{vec-items, vec-len}
+use Rattle.std.specs.Of.Vec.{vec-items}
 use Rattle.std.specs.Runs.{nth}
 use Rattle.std.specs.declared.option.Option.{Option}
 use Rattle.std.specs.declared.option.Option.the-variants.{Some, None}
 use Rattle.std.proofs.shelf.Maps.{nth-getD}
-use Rattle.std.proofs.shelf.Tests.{cases-lt, cases-eq, cases-order}
-use Rattle.std.proofs.iter.runs.Lists.{none-some, same-some, nth-within}
+use Rattle.std.proofs.shelf.Tests.{cases-order}
+use Rattle.std.proofs.iter.runs.Lists.{nth-within}
 use Rattle.sheet.specs.declared.records.Carrier.{Carrier}
 use Rattle.sheet.specs.declared.records.Stop.{Stop}
 use Rattle.sheet.specs.declared.records.Precedence.{Precedence}
 use Rattle.sheet.specs.declared.sheets.Sheet.{Sheet}
-use Rattle.sheet.specs.Book.{BookCarrier, BookPrecedence, Book, Goes, Visits, Stands, Start-of, Goal-of, On-route, Reached-goal, Next, Starts, Latest}
-use Rattle.sheet.specs.Records.{book-carrier, book-stop, book-precedence, Numbered, no-stop}
+use Rattle.sheet.specs.Book.{BookCarrier, BookPrecedence, Book, Goes, Visits, Stands, Start-of, Reached-goal, Next, Starts, Latest}
+use Rattle.sheet.specs.Records.{book-carrier, book-precedence, Numbered, no-stop}
 use Rattle.sheet.specs.Sheets.{sheet-book}
-use Rattle.sheet.specs.Sound.{Sound, Holds}
-use Rattle.sheet.specs.Tables.{Numbered-tables}
+use Rattle.sheet.specs.Sound.{Sound}
 use Rattle.sheet.proofs.Grown
 use Rattle.sheet.proofs.Nth.{nth-of-map, nth-from-map}
 use Rattle.sheet.proofs.Stable.{sound-held, numbered-held}
@@ -97,6 +96,13 @@ module _ (s : Sheet) where
   pub no-stop-at-goal : (c : ℕ) (x : Carrier) → nth cs c ≡ Some x → x .«last_place» ≢ x .goal → (t : ℕ) → Visits b t c (x .goal) → ⊥
   no-stop-at-goal c x e other t v =
       other (Told.at-goal b sound-of c _ _ _ _ (goes-of c x e) (latest-of c x e) (x .goal, (x .start, goes-of c x e), (t, v)))
+
+  -- a route has reached its goal just when its latest stop is there
+  pub reaches-goal : (c : ℕ) (x : Carrier) → nth cs c ≡ Some x → x .«last_place» ≡ x .goal → Reached-goal b c
+  reaches-goal c x e q = (x .goal, (x .start, goes-of c x e), (x .«last_stop», stops-at-goal c x e q))
+
+  pub reached-goal : (c : ℕ) (x : Carrier) → nth cs c ≡ Some x → Reached-goal b c → x .«last_place» ≡ x .goal
+  reached-goal c x e reached = Told.at-goal b sound-of c _ _ _ _ (goes-of c x e) (latest-of c x e) reached
 
   -- the stop before a stop is its previous one
   pub previous-next : (t p : ℕ) (x : Stop) → nth ss t ≡ Some x → x .previous ≡ Some p → (y : Stop) × (nth ss p ≡ Some y) × Next b (x .carrier) p (y .place) t (x .place)

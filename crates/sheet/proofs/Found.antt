@@ -1,10 +1,9 @@
 -- What a search by key tells of the book.
-use mathlib.Core.Path.{_≡_, refl, sym, ap, subst, _∙_}
-use mathlib.Core.List.{List, [], _∷_, map}
-use mathlib.Core.Logic.{_⊎_, inl, inr, ⊎-elim}
-use Prim.Native.Nat.{ℕ, _<_}
+use mathlib.Core.Path.{_≡_, refl, sym, ap, _∙_}
+use mathlib.Core.List.{List, [], _∷_}
+use Prim.Native.Nat.{ℕ}
 use native.Mathlib.Omega.{arith}
-use lib.ListN.{length, getD}
+use lib.ListN.{getD}
 use Rattle.std.specs.Of.Vec.{vec-items}
 use Rattle.std.specs.Options.{Cases, isSome}
 use Rattle.std.specs.Orderings.{Decides}
@@ -23,7 +22,7 @@ use Rattle.sheet.specs.declared.records.Start.{Start}
 use Rattle.sheet.specs.declared.records.Goal.{Goal}
 use Rattle.sheet.specs.declared.records.Visit.{Visit}
 use Rattle.sheet.specs.declared.records.Order.{Order}
-use Rattle.sheet.specs.Book.{BookCarrier, BookStop, BookPrecedence, Visits, Stands, Start-of, Goal-of, On-route}
+use Rattle.sheet.specs.Book.{BookCarrier, BookStop, BookPrecedence, Visits, Stands, On-route}
 use Rattle.sheet.specs.Calls.{Start-taken, Goal-taken, Standing}
 use Rattle.sheet.specs.Records.{book-carrier, book-stop, book-precedence}
 use Rattle.sheet.specs.Tables.{book-of}

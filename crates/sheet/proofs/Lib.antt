@@ -15,3 +15,4 @@ pub mod Told
 pub mod Carried
 pub mod Entered
 pub mod Facts
+pub mod Determined

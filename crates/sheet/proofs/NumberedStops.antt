@@ -1,20 +1,18 @@
 -- The numbers of stops that the records keep stay right when a carrier or a stop is entered.
-use mathlib.Core.Path.{_≡_, refl, sym, ap, subst, _∙_}
-use mathlib.Core.List.{List, [], _∷_, _++_, map}
-use mathlib.Core.Logic.{_⊎_, inl, inr, ⊎-elim}
-use Prim.Native.Nat.{ℕ, _+_, _≤_, _<_}
+use mathlib.Core.Path.{_≡_, sym, ap, subst, _∙_}
+use mathlib.Core.List.{List, [], _∷_, _++_}
+use mathlib.Core.Logic.{_⊎_, ⊎-elim}
+use Prim.Native.Nat.{ℕ, _+_, _<_}
 use lib.ListN.{length, set}
 use native.Mathlib.Omega.{arith}
 use Rattle.std.specs.Runs.{nth}
-use Rattle.std.specs.declared.option.Option.{Option}
 use Rattle.std.specs.declared.option.Option.the-variants.{Some, None}
-use Rattle.std.proofs.shelf.Lists.{length-map}
 use Rattle.std.proofs.iter.runs.Lists.{none-some, same-some, nth-within}
 use Rattle.sheet.specs.declared.records.Carrier.{Carrier}
 use Rattle.sheet.specs.declared.records.Stop.{Stop}
 use Rattle.sheet.specs.declared.records.Precedence.{Precedence}
 use Rattle.sheet.specs.Book.{Book, Visits, Next, Starts, Latest}
-use Rattle.sheet.specs.Records.{book-carrier, book-from, Numbered, gone-on}
+use Rattle.sheet.specs.Records.{book-from, Numbered, gone-on}
 use Rattle.sheet.proofs.Nth.{nth-push-cases, nth-set-cases}
 use Rattle.sheet.proofs.Grown.{visits-at, visits-within, visits-kept, visits-new, visits-cases, starts-kept, next-kept, latest-kept, latest-new}
 

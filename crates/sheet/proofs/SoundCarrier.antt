@@ -1,15 +1,13 @@
 -- A sound book stays sound when a carrier is entered.
-use mathlib.Core.Path.{_≡_, refl, sym, ap, subst, _∙_}
-use mathlib.Core.List.{List, [], _∷_, _++_}
-use mathlib.Core.Logic.{_⊎_, inl, inr, ⊎-elim, _≢_, ∥∥₁-map, ∥∥₁-elim}
+use mathlib.Core.Path.{_≡_, sym, subst}
+use mathlib.Core.Logic.{_⊎_, inl, inr, ⊎-elim, ∥∥₁-map, ∥∥₁-elim}
 use std.HLevel.{⊥-prop}
-use Prim.Native.Nat.{ℕ, _+_, _≤_, _<_}
+use Prim.Native.Nat.{ℕ, _+_, _<_}
 use lib.ListN.{length}
 use native.Mathlib.Omega.{arith}
-use Rattle.std.specs.declared.option.Option.the-variants.{Some, None}
 use Rattle.std.proofs.shelf.Lists.{length-push}
 use Rattle.std.proofs.iter.runs.Lists.{nth-within, nth-seam}
-use Rattle.sheet.specs.Book.{Book, Goes, Visits, Stands, Start-of, Goal-of, On-route, Starts}
+use Rattle.sheet.specs.Book.{Book, Goes, Visits, Stands, On-route, Starts}
 use Rattle.sheet.specs.Calls.{Too-high, Carriers-full, Stops-full, Accepts, checks, with-carrier}
 use Rattle.sheet.specs.Calls.Call.{enter-carrier}
 use Rattle.sheet.specs.Sound.{Sound, Holds}

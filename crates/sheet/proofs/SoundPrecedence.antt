@@ -1,15 +1,12 @@
 -- A sound book stays sound when a precedence is entered or struck.
-use mathlib.Core.Path.{_≡_, refl, sym, ap, subst, _∙_}
-use mathlib.Core.List.{List, [], _∷_, _++_}
+use mathlib.Core.Path.{_≡_}
 use mathlib.Core.Logic.{_⊎_, inl, inr, ⊎-elim, _≢_, ∥∥₁-map}
-use Prim.Native.Nat.{ℕ, _+_, _≤_, _<_}
+use Prim.Native.Nat.{ℕ, _<_}
 use lib.ListN.{length}
 use native.Mathlib.Omega.{arith}
-use Rattle.std.specs.declared.option.Option.the-variants.{Some, None}
 use Rattle.std.proofs.shelf.Edits.{length-removed}
 use Rattle.std.proofs.shelf.Lists.{length-push}
-use Rattle.std.proofs.iter.runs.Lists.{nth-within}
-use Rattle.sheet.specs.Book.{Book, Goes, Visits, Stands, Start-of, Goal-of, On-route, Starts}
+use Rattle.sheet.specs.Book.{Book, Stands, On-route, Starts}
 use Rattle.sheet.specs.Calls.{Precedences-full, Accepts, checks, with-precedence, without-precedence}
 use Rattle.sheet.specs.Calls.Call.{enter-precedence}
 use Rattle.sheet.specs.Sound.{Sound, Holds}

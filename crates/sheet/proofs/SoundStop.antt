@@ -1,17 +1,15 @@
 -- A sound book stays sound when a stop is entered.
-use mathlib.Core.Path.{_≡_, refl, sym, ap, subst, _∙_}
-use mathlib.Core.List.{List, [], _∷_, _++_}
-use mathlib.Core.Logic.{_⊎_, inl, inr, ⊎-elim, ∥∥₁-map}
-use Prim.Native.Nat.{ℕ, _+_, _≤_, _<_}
+use mathlib.Core.Path.{_≡_}
+use mathlib.Core.Logic.{_⊎_, ⊎-elim, ∥∥₁-map}
+use Prim.Native.Nat.{ℕ, _+_}
 use lib.ListN.{length}
 use native.Mathlib.Omega.{arith}
-use Rattle.std.specs.declared.option.Option.the-variants.{Some, None}
 use Rattle.std.proofs.shelf.Lists.{length-push}
 use Rattle.std.proofs.iter.runs.Lists.{nth-within}
-use Rattle.sheet.specs.Book.{Book, Goes, Visits, Stands, Start-of, Goal-of, On-route, Starts}
+use Rattle.sheet.specs.Book.{Book, Visits, On-route, Starts}
 use Rattle.sheet.specs.Calls.{Unknown, Too-high, Stops-full, Accepts, checks, with-stop}
 use Rattle.sheet.specs.Calls.Call.{enter-stop}
-use Rattle.sheet.specs.Sound.{Sound, Holds}
+use Rattle.sheet.specs.Sound.{Sound}
 use Rattle.sheet.proofs.Nth.{nth-push}
 use Rattle.sheet.proofs.Words.{stop-cases}
 

@@ -1,15 +1,12 @@
 -- Every book that a lawful history leads to is sound.
-use mathlib.Core.Path.{_≡_, refl, sym, ap, subst, _∙_}
-use mathlib.Core.Logic.{_⊎_, inl, inr, ⊎-elim}
-use Prim.Native.Nat.{ℕ, _≤_, _<_}
+use mathlib.Core.Path.{sym, subst}
 use native.Mathlib.Omega.{arith}
 use Rattle.std.specs.declared.result.Result.the-variants.{Ok, Err}
-use Rattle.std.specs.declared.option.Option.the-variants.{Some, None}
 use Rattle.std.proofs.iter.runs.Lists.{none-some, nth-within}
 use Rattle.sheet.specs.Book.{Book, opened}
 use Rattle.sheet.specs.Calls.{Call, Answer, Answers, Leaves}
 use Rattle.sheet.specs.Calls.Call.{enter-carrier, enter-stop, enter-precedence, strike-precedence}
-use Rattle.sheet.specs.Histories.{History, Entry, Lawful}
+use Rattle.sheet.specs.Histories.{History, Leads, Enters, Always-sound}
 use Rattle.sheet.specs.Histories.History.{opening, _▹_}
 use Rattle.sheet.specs.Sound.{Sound}
 use Rattle.sheet.proofs.SoundCarrier.{sound-carrier}
@@ -45,6 +42,10 @@ sound-after b b′ (enter-stop carrier place) (Ok n) a l sound = subst Sound (sy
 sound-after b b′ (enter-precedence first second place) (Ok n) a l sound = subst Sound (sym l) (sound-precedence b sound first second place (a .0))
 sound-after b b′ (strike-precedence first second place) (Ok n) a l sound = subst Sound (sym (l .2)) (sound-strike b sound (l .0) (nth-within (b .precedences) (l .0) _ (l .1)))
 
-pub ever-sound : (h : History Entry) (b : Book) → Lawful h b → Sound b
-ever-sound opening b l = subst Sound (sym l) sound-opened
-ever-sound (h ▹ e) b l = sound-after (l .0) b (e .0) (e .1) (l .2 .0) (l .2 .1) (ever-sound h (l .0) (l .1))
+-- what holds of the opened book, and is kept by each event, holds of every book that a history leads to
+pub ever : {Event : Type 0} (Happens : Book → Event → Book → Type 0) (P : Book → Type 0) → P opened → ((b b′ : Book) (e : Event) → Happens b e b′ → P b → P b′) → (h : History Event) (b : Book) → Leads Happens h b → P b
+ever Happens P first more opening b l = subst P (sym l) first
+ever Happens P first more (h ▹ e) b l = more (l .0) b e (l .2) (ever Happens P first more h (l .0) (l .1))
+
+pub ever-sound : Always-sound
+ever-sound = ever Enters Sound sound-opened (λ b b′ e did sound. sound-after b b′ (e .0) (e .1) (did .0) (did .1) sound)

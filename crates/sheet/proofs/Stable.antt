@@ -1,14 +1,14 @@
 -- What a sheet carries can be used as it stands: it is a fact, however it was shown.
-use mathlib.Core.Path.{_≡_, refl, sym, ap, subst, _∙_}
-use mathlib.Core.Logic.{_≢_, ∥∥₁-map, ∥∥₁-elim}
+use mathlib.Core.Path.{_≡_, sym, ap, _∙_}
+use mathlib.Core.Logic.{∥∥₁-map, ∥∥₁-elim}
 use std.HLevel.{⊥-prop}
 use std.Logic.{∥∥₁-prop}
-use Prim.Native.Nat.{ℕ, _+_, _≤_, _<_}
+use Prim.Native.Nat.{ℕ, _≤_, _<_}
 use native.Mathlib.Bridge.{le-prop}
 use native.Mathlib.Nat.{ℕ-set}
 use lib.ListN.{length, getD}
 use Rattle.std.specs.Runs.{nth}
-use Rattle.std.specs.declared.option.Option.the-variants.{Some, None}
+use Rattle.std.specs.declared.option.Option.the-variants.{Some}
 use Rattle.std.proofs.shelf.Maps.{nth-getD}
 use Rattle.std.proofs.iter.runs.Lists.{same-some, nth-within}
 use mathlib.Core.List.{List}

@@ -1,15 +1,14 @@
 -- What the words of a book say, one list at a time: each record stands at one number, and after a call it stood before or is new.
-use mathlib.Core.Path.{_≡_, refl, sym, ap, subst, _∙_}
+use mathlib.Core.Path.{_≡_, sym, ap, _∙_}
 use mathlib.Core.List.{List, [], _∷_, _++_}
 use mathlib.Core.Logic.{_⊎_, inl, inr, ⊎-elim}
-use Prim.Native.Nat.{ℕ, zero, suc, _+_, _≤_, _<_}
+use Prim.Native.Nat.{ℕ, zero, suc, _+_}
 use lib.ListN.{length}
-use native.Mathlib.Omega.{arith}
 use Rattle.std.specs.Runs.{nth}
-use Rattle.std.specs.declared.option.Option.the-variants.{Some, None}
+use Rattle.std.specs.declared.option.Option.the-variants.{Some}
 use Rattle.std.proofs.shelf.Tests.{cases-eq}
-use Rattle.std.proofs.iter.runs.Lists.{none-some, same-some, nth-within}
-use Rattle.sheet.specs.Book.{BookCarrier, BookStop, BookPrecedence, Book, Goes, Visits, Stands, On-route}
+use Rattle.std.proofs.iter.runs.Lists.{none-some, same-some}
+use Rattle.sheet.specs.Book.{BookCarrier, BookStop, BookPrecedence, Book, Goes, Visits, On-route}
 use Rattle.sheet.proofs.Nth.{nth-push-cases}
 
 pub same-stop : (c u c′ u′ : ℕ) → _≡_ {A = BookStop} (record { carrier = c; place = u }) (record { carrier = c′; place = u′ }) → (c ≡ c′) × (u ≡ u′)

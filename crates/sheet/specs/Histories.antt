@@ -2,6 +2,7 @@
 use mathlib.Core.Path.{_≡_}
 use Rattle.sheet.specs.Book.{Book, opened}
 use Rattle.sheet.specs.Calls.{Call, Answer, Answers, Leaves}
+use Rattle.sheet.specs.Sound.{Sound}
 
 -- what happened to a sheet since it was opened; the latest event stands last
 infixl 20 _▹_
@@ -25,3 +26,20 @@ Enters b e b′ = Answers b (e .0) (e .1) × Leaves b (e .0) (e .1) b′
 -- every call in the history has the book's answer, and the calls left this book
 abbrev pub Lawful : History Entry → Book → Type 0
 Lawful h b = Leads Enters h b
+
+-- every history that led lawfully to b leads, with this call and this answer, lawfully to b′
+abbrev pub Continues : Book → Call → Answer → Book → Type 0
+Continues b call answer b′ = (h : History Entry) → Lawful h b → Lawful (h ▹ (call, answer)) b′
+
+-- the calls of a history, without their answers
+abbrev pub calls-of : History Entry → History Call
+calls-of opening = opening
+calls-of (h ▹ e) = calls-of h ▹ e .0
+
+-- whatever calls were made, the book is sound
+abbrev pub Always-sound : Type 0
+Always-sound = (h : History Entry) (b : Book) → Lawful h b → Sound b
+
+-- the answers and the book depend on nothing but the calls made since the opening, in their order
+abbrev pub Calls-decide : Type 0
+Calls-decide = (h h′ : History Entry) (b b′ : Book) → Lawful h b → Lawful h′ b′ → calls-of h ≡ calls-of h′ → (h ≡ h′) × (b ≡ b′)

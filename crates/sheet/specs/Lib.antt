@@ -1,8 +1,8 @@
 pub mod Refusals
 pub mod Book
 pub mod Calls
-pub mod Histories
 pub mod Sound
+pub mod Histories
 pub mod Records
 pub mod Tables
 pub mod Sheets

@@ -3,7 +3,7 @@ use mathlib.Core.Path.{_≡_}
 use mathlib.Core.Logic.{_⊎_, _≢_}
 use Prim.Native.Nat.{ℕ, _≤_, _<_}
 use lib.ListN.{length}
-use Rattle.sheet.specs.Book.{Book, Goes, Visits, Stands, Start-of, Goal-of, On-route, Starts}
+use Rattle.sheet.specs.Book.{Book, Visits, Stands, Start-of, Goal-of, On-route, Starts}
 
 -- that P holds, apart from how it is shown: the form in which a type can carry it
 abbrev pub Holds : Type 0 → Type 0

@@ -1,7 +1,8 @@
 // The sheet and its calls.
 ghost use mathlib.Core.Path.{_≡_};
-ghost use Prim.Native.Nat.{_<_, _≤_};
+ghost use Prim.Native.Nat.{_+_, _<_, _≤_};
 ghost use lib.ListN.{length};
+ghost use Rattle.std.specs.Holes.{removed};
 ghost use Rattle.std.specs.Of.Vec.{vec-items, vec-len, vec-cap};
 ghost use Rattle.std.specs.Options.{Cases as BySome};
 ghost use Rattle.std.specs.Orderings.{Decides};
@@ -10,8 +11,8 @@ ghost use Rattle.std.specs.Vec.{made, refused};
 ghost use Rattle.sheet.specs.Book.{Visits, Stands, Start-of, Goal-of, On-route, Reached-goal, Decided, opened};
 ghost use Rattle.sheet.specs.Calls.{Carriers-full, Stops-full, Precedences-full, Start-taken, Goal-taken, Standing, Checked, Answers, Leaves};
 ghost use Rattle.sheet.specs.Calls.Call.{enter-carrier, enter-stop, enter-precedence, strike-precedence};
-ghost use Rattle.sheet.specs.Histories.{History, Entry, Lawful};
-ghost use Rattle.sheet.specs.Histories.History.{opening, _▹_};
+ghost use Rattle.sheet.specs.Histories.{Lawful, Continues, Always-sound, Calls-decide};
+ghost use Rattle.sheet.specs.Histories.History.{opening};
 ghost use Rattle.sheet.specs.Sound.{Sound, Holds};
 ghost use Rattle.sheet.specs.Tables.{book-of, Only-goes-on, Numbered-tables, CarriersInside, StopsInside, Linked, PrecedencesInside};
 use crate::records::Carrier;
@@ -145,16 +146,31 @@ impl Tables {
         self.index_of(first, second, place).is_some()
             || self.index_of(second, first, place).is_some()
     }
+
+    // Takes a precedence away. The others keep their order.
+    fn remove_precedence(&mut self, index: usize)
+        requires { ⌜ index < vec-len (now self .precedences) ⌝ }
+        ensures removes { λ _. ⌜ vec-items (now (self .exit) .precedences) ≡ removed (vec-items (now (self .entry) .precedences)) index ⌝ }
+        ensures shorter { λ _. ⌜ vec-len (now (self .exit) .precedences) + 1 ≡ vec-len (now (self .entry) .precedences) ⌝ }
+        ensures room { λ _. ⌜ vec-cap (now (self .exit) .precedences) ≡ vec-cap (now (self .entry) .precedences) ⌝ }
+        ensures others { λ _. ⌜ (now (self .exit) .carriers ≡ now (self .entry) .carriers) × (now (self .exit) .stops ≡ now (self .entry) .stops) ⌝ }
+    {
+        let _ = self.precedences.remove(index);
+    }
 }
 
 // A sheet. It has room for all that it may ever hold, so that no call after the opening wants memory.
 #[derive(Drop)]
 pub struct Sheet {
     tables: Tables,
+    // Room for the most that the tables may hold, and no more in them than that.
     ghost room: { (64 ≤ vec-cap (tables .carriers)) × (1024 ≤ vec-cap (tables .stops)) × (2048 ≤ vec-cap (tables .precedences)) },
     ghost limits: { (vec-len (tables .carriers) ≤ 64) × (vec-len (tables .stops) ≤ 1024) × (vec-len (tables .precedences) ≤ 2048) },
+    // What always holds of its book.
     ghost sound: { Holds (Sound (book-of tables)) },
+    // The numbers of stops that the records keep are right.
     ghost numbered: { Holds (Numbered-tables tables) },
+    // So each number in a record is one of a record that stands.
     ghost latest: { CarriersInside (vec-len (tables .stops)) (vec-items (tables .carriers)) },
     ghost carried: { StopsInside (vec-len (tables .carriers)) (vec-items (tables .stops)) },
     ghost linked: { Linked (vec-items (tables .stops)) },
@@ -162,10 +178,12 @@ pub struct Sheet {
 }
 
 impl Sheet {
-    // Opens an empty sheet.
+    // Opens an empty sheet. Whatever calls then follow, they alone decide the answers and the book, and the book is sound.
     pub fn open(heap: Global) -> Result<Sheet, AllocError>
         ensures opens { λ r. ⌜ made r (λ s. book-of (s .tables) ≡ opened) ⌝ }
         ensures begins { λ r. ⌜ made r (λ s. Lawful opening (book-of (s .tables))) ⌝ }
+        ensures always { λ _. ⌜ Always-sound ⌝ }
+        ensures decided { λ _. ⌜ Calls-decide ⌝ }
     {
         let carriers = Vec::with_capacity(heap, MOST_CARRIERS)?;
         let stops = Vec::with_capacity(heap, MOST_STOPS)?;
@@ -306,7 +324,7 @@ impl Sheet {
         ensures answers { λ r. ⌜ Answers (book-of (now (self .entry) .tables)) (enter-carrier start goal) r ⌝ }
         ensures leaves { λ r. ⌜ Leaves (book-of (now (self .entry) .tables)) (enter-carrier start goal) r (book-of (now (self .exit) .tables)) ⌝ }
         ensures unchanged { λ r. ⌜ refused r (λ _. now (self .exit) ≡ now (self .entry)) ⌝ }
-        ensures goes_on { λ r. ⌜ ((h : History Entry) → Lawful h (book-of (now (self .entry) .tables)) → Lawful (h ▹ (enter-carrier start goal, r)) (book-of (now (self .exit) .tables))) ⌝ }
+        ensures goes_on { λ r. ⌜ Continues (book-of (now (self .entry) .tables)) (enter-carrier start goal) r (book-of (now (self .exit) .tables)) ⌝ }
     {
         self.check_carrier(start, goal)?;
         let number = self.tables.carriers.len() as u8;
@@ -330,7 +348,7 @@ impl Sheet {
         ensures answers { λ r. ⌜ Answers (book-of (now (self .entry) .tables)) (enter-stop carrier place) r ⌝ }
         ensures leaves { λ r. ⌜ Leaves (book-of (now (self .entry) .tables)) (enter-stop carrier place) r (book-of (now (self .exit) .tables)) ⌝ }
         ensures unchanged { λ r. ⌜ refused r (λ _. now (self .exit) ≡ now (self .entry)) ⌝ }
-        ensures goes_on { λ r. ⌜ ((h : History Entry) → Lawful h (book-of (now (self .entry) .tables)) → Lawful (h ▹ (enter-stop carrier place, r)) (book-of (now (self .exit) .tables))) ⌝ }
+        ensures goes_on { λ r. ⌜ Continues (book-of (now (self .entry) .tables)) (enter-stop carrier place) r (book-of (now (self .exit) .tables)) ⌝ }
         ensures records { λ r. ⌜ made r (λ stop. Only-goes-on (now (self .entry) .tables) carrier stop place (now (self .exit) .tables)) ⌝ }
     {
         self.check_stop(carrier, place)?;
@@ -355,7 +373,7 @@ impl Sheet {
         ensures answers { λ r. ⌜ Answers (book-of (now (self .entry) .tables)) (enter-precedence first second place) r ⌝ }
         ensures leaves { λ r. ⌜ Leaves (book-of (now (self .entry) .tables)) (enter-precedence first second place) r (book-of (now (self .exit) .tables)) ⌝ }
         ensures unchanged { λ r. ⌜ refused r (λ _. now (self .exit) ≡ now (self .entry)) ⌝ }
-        ensures goes_on { λ r. ⌜ ((h : History Entry) → Lawful h (book-of (now (self .entry) .tables)) → Lawful (h ▹ (enter-precedence first second place, r)) (book-of (now (self .exit) .tables))) ⌝ }
+        ensures goes_on { λ r. ⌜ Continues (book-of (now (self .entry) .tables)) (enter-precedence first second place) r (book-of (now (self .exit) .tables)) ⌝ }
     {
         let (first_stop, second_stop) = self.check_precedence(first, second, place)?;
         self.tables.precedences.push_reserved(Precedence {
@@ -378,10 +396,10 @@ impl Sheet {
         ensures answers { λ r. ⌜ Answers (book-of (now (self .entry) .tables)) (strike-precedence first second place) r ⌝ }
         ensures leaves { λ r. ⌜ Leaves (book-of (now (self .entry) .tables)) (strike-precedence first second place) r (book-of (now (self .exit) .tables)) ⌝ }
         ensures unchanged { λ r. ⌜ refused r (λ _. now (self .exit) ≡ now (self .entry)) ⌝ }
-        ensures goes_on { λ r. ⌜ ((h : History Entry) → Lawful h (book-of (now (self .entry) .tables)) → Lawful (h ▹ (strike-precedence first second place, r)) (book-of (now (self .exit) .tables))) ⌝ }
+        ensures goes_on { λ r. ⌜ Continues (book-of (now (self .entry) .tables)) (strike-precedence first second place) r (book-of (now (self .exit) .tables)) ⌝ }
     {
         let index = self.check_strike(first, second, place)?;
-        let _ = self.tables.precedences.remove(index);
+        self.tables.remove_precedence(index);
         Ok(self.tables.precedences.len() as u16)
     }
 }

@@ -20,7 +20,9 @@ pub trait Constant {
 pub impl<const N: u32> Constant for Exactly<N> as ExactlyConstant {
     ghost value = { N };
 
-    fn get(self) -> u32 {
+    fn get(self) -> u32
+        ensures { λ r. ⌜ r ≡ N ⌝ }
+    {
         self.number
     }
 }

@@ -20,7 +20,9 @@ pub impl FollowingRule for FullLane as FullLaneRule {
 
     ghost gaps = { λ _ _ _ time. time };
 
-    fn gap(&self, _from: u16, _to: u16, time: u16) -> u32 {
+    fn gap(&self, _from: u16, _to: u16, time: u16) -> u32
+        ensures { λ r. ⌜ r ≡ time ⌝ }
+    {
         u32::from(time)
     }
 }
@@ -38,7 +40,9 @@ pub impl FollowingRule for LaneLessOne as LaneLessOneRule {
 
     ghost gaps = { λ _ _ _ time. time - 1 };
 
-    fn gap(&self, _from: u16, _to: u16, time: u16) -> u32 {
+    fn gap(&self, _from: u16, _to: u16, time: u16) -> u32
+        ensures { λ r. ⌜ r ≡ time - 1 ⌝ }
+    {
         u32::from(time.saturating_sub(1))
     }
 }
@@ -86,7 +90,9 @@ pub impl FollowingRule for FixedGap as FixedGapRule {
 
     ghost gaps = { λ s _ _ _. s .ticks };
 
-    fn gap(&self, _from: u16, _to: u16, _time: u16) -> u32 {
+    fn gap(&self, _from: u16, _to: u16, _time: u16) -> u32
+        ensures { λ r. ⌜ r ≡ now (self .entry) .ticks ⌝ }
+    {
         u32::from(self.ticks)
     }
 }

@@ -23,7 +23,7 @@ use std::alloc::Global;
 use yard::Yard;
 
 impl GridYard {
-    // A yard with no cells, and so no lanes.
+    // A yard with no rows, so with no cells and no lanes.
     pub fn new(heap: Global) -> Result<GridYard, AllocError>
         ensures { λ r. ⌜ made r (λ s. (a b : ℕ) → lanes-of s a b ≡ None) ⌝ }
     {
@@ -31,7 +31,7 @@ impl GridYard {
         Ok(GridYard {
             plan: Plan {
                 rows: 0,
-                columns: 0,
+                columns: 1,
                 along: 1,
                 across: 1,
             },
@@ -73,7 +73,9 @@ impl GridYard {
 pub impl Yard for GridYard as GridYardYard {
     ghost lanes = { lanes-of };
 
-    fn travel_time(&self, from: u16, to: u16) -> Option<u16> {
+    fn travel_time(&self, from: u16, to: u16) -> Option<u16>
+        ensures { λ r. ⌜ r ≡ lanes-of (now (self .entry)) from to ⌝ }
+    {
         if self.is_open(from) && self.is_open(to) {
             step_time(self.plan, from, to)
         } else {

@@ -1,5 +1,4 @@
 use borrow.Author.Needs.{needs}
-use mathlib.Core.Logic.{⊎-elim}
 use Rattle.sheet.proofs.Counts.{precedences-count}
 use Rattle.sheet.proofs.sheets.Sheet.check_precedence.Needs as need
 

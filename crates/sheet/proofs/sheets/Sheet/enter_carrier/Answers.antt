@@ -1,8 +1,6 @@
 use borrow.Author.Needs.{needs}
-use mathlib.Core.Path.{_≡_, refl, sym, _∙_}
+use mathlib.Core.Path.{refl, sym, _∙_}
 use Rattle.sheet.specs.declared.sheets.Tables.{Tables}
-use Rattle.sheet.specs.Tables.{book-of}
-use Rattle.sheet.specs.Calls.{with-carrier}
 use Rattle.sheet.proofs.Counts.{carriers-count}
 use Rattle.sheet.proofs.Entered.{book-carrier-entered, carries-carrier}
 use Rattle.sheet.proofs.sheets.Sheet.enter_carrier.Needs as need

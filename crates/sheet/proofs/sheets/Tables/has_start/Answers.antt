@@ -1,4 +1,3 @@
-use mathlib.Core.Path.{sym}
 use Rattle.std.proofs.shelf.Ways.{decides-at}
 use Rattle.sheet.proofs.Found.{start-found}
 use Rattle.sheet.proofs.sheets.Tables.has_start.Needs as need
