@@ -1,4 +1,6 @@
 // What a line is answered.
+ghost use mathlib.Core.Path.{_≡_};
+ghost use Rattle.session.specs.Refusals.{number-of, told-by};
 use judge::refusal::JudgeRefusal;
 use lane_yard::refusal::LayRefusal;
 use lines::refusal::LineRefusal;
@@ -19,7 +21,9 @@ pub enum Refusal {
 
 impl Refusal {
     // The number of the refusal.
-    pub fn number(&self) -> u8 {
+    pub fn number(&self) -> u8
+        ensures { λ r. ⌜ r ≡ number-of (now (self .entry)) ⌝ }
+    {
         match self {
             Refusal::Line { why } => why.number(),
             Refusal::Entry { why } => why.number(),
@@ -29,7 +33,9 @@ impl Refusal {
     }
 
     // What the refusal tells, 0 where there is nothing.
-    pub fn told(&self) -> (u16, u16) {
+    pub fn told(&self) -> (u16, u16)
+        ensures { λ r. ⌜ r ≡ told-by (now (self .entry)) ⌝ }
+    {
         match self {
             Refusal::Line { why } => (why.told(), 0),
             Refusal::Entry { .. } => (0, 0),

@@ -1,4 +1,10 @@
 // The session and its calls.
+ghost use mathlib.Core.Bool.{cond};
+ghost use mathlib.Core.Path.{_≡_};
+ghost use Rattle.std.specs.Results.{isOk};
+ghost use Rattle.lines.specs.Pages.{written};
+ghost use Rattle.replies.specs.Answers.{line-of, refused, writing};
+ghost use Rattle.session.specs.Refusals.{number-of, told-by};
 ghost use Rattle.judge.specs.Settling.{Within};
 ghost use Rattle.session.specs.Answers.{OnPages};
 use crate::answer::Answer;
@@ -62,22 +68,30 @@ impl Session {
     }
 
     // The yard.
-    pub fn yard(&self) -> &LaneYard {
+    pub fn yard(&self) -> &LaneYard
+        ensures { λ r. ⌜ now r ≡ now (self .entry) .yard ⌝ }
+    {
         &self.yard
     }
 
     // The sheet.
-    pub fn sheet(&self) -> &Sheet {
+    pub fn sheet(&self) -> &Sheet
+        ensures { λ r. ⌜ now r ≡ now (self .entry) .sheet ⌝ }
+    {
         &self.sheet
     }
 
     // The timetable of the last judging that passed, by stop number.
-    pub fn timetable(&self) -> &[u32] {
+    pub fn timetable(&self) -> &[u32]
+        ensures { λ r. ⌜ now r ≡ now (self .entry) .timetable ⌝ }
+    {
         &self.timetable
     }
 
     // The ring of the last judging that found one.
-    pub fn ring(&self) -> &[u16] {
+    pub fn ring(&self) -> &[u16]
+        ensures { λ r. ⌜ now r ≡ now (self .entry) .ring ⌝ }
+    {
         &self.ring
     }
 
@@ -171,7 +185,10 @@ fn judged(outcome: Result<u16, JudgeRefusal>) -> Answer
 }
 
 // Writes the reply of a refusal to the front of the page.
-pub fn write_refusal(refusal: Refusal, page: &mut [u8]) -> Result<usize, WriteRefusal> {
+pub fn write_refusal(refusal: Refusal, page: &mut [u8]) -> Result<usize, WriteRefusal>
+    ensures value { λ r. ⌜ r ≡ writing (now (page .entry)) 0 (refused (number-of refusal) (told-by refusal .0) (told-by refusal .1)) ⌝ }
+    ensures after { λ r. ⌜ now (page .exit) ≡ cond (isOk r) (written (now (page .entry)) 0 (line-of (refused (number-of refusal) (told-by refusal .0) (told-by refusal .1)))) (now (page .entry)) ⌝ }
+{
     let (first, second) = refusal.told();
     write_refused(refusal.number(), first, second, page, 0)
 }
