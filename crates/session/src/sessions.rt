@@ -6,7 +6,11 @@ ghost use Rattle.lines.specs.Pages.{written};
 ghost use Rattle.replies.specs.Answers.{line-of, refused, writing};
 ghost use Rattle.session.specs.Refusals.{number-of, told-by};
 ghost use Rattle.judge.specs.Settling.{Within};
-ghost use Rattle.session.specs.Answers.{OnPages};
+ghost use Rattle.lane_yard.specs.Meaning.{lanes-of};
+ghost use Rattle.lines.specs.Reading.{reading};
+ghost use Rattle.lines.specs.declared.entry.Input.the-variants.{Sheet as SheetInput};
+ghost use Rattle.sheet.specs.Sheets.{sheet-book};
+ghost use Rattle.session.specs.Answers.{Answered, Judges, Line-answered, OnPages, Ruled, entered-as, judged-as};
 use crate::answer::Answer;
 use crate::answer::Refusal;
 use judge::judging::judge;
@@ -27,6 +31,7 @@ use sheet::refusal::EntryRefusal;
 use sheet::sheets::Sheet;
 use std::alloc::AllocError;
 use std::alloc::Global;
+use yard::FollowingRule;
 use yard::rules::FixedGap;
 use yard::rules::FixedGapRule;
 use yard::rules::FullLane;
@@ -45,7 +50,8 @@ pub struct Session {
 
 // What comes of an entry or a striking.
 fn entered(outcome: Result<u16, EntryRefusal>) -> Answer
-    ensures { λ r. ⌜ OnPages r ⌝ }
+    ensures value { λ r. ⌜ r ≡ entered-as outcome ⌝ }
+    ensures within { λ r. ⌜ OnPages r ⌝ }
 {
     match outcome {
         Ok(number) => Answer::Accepted { number },
@@ -95,33 +101,49 @@ impl Session {
         &self.ring
     }
 
+    // Judges the sheet in the yard under the rule.
+    fn judge_by<R: FollowingRule>(&mut self, rule: &R) -> Answer
+        ensures judges { λ r. ⌜ Judges (lanes-of (now (self .entry) .yard)) (R·FollowingRule .gaps (now (rule .entry))) (R·FollowingRule .largest) (sheet-book (now (self .entry) .sheet)) (record { timetable = now (self .entry) .timetable; ring = now (self .entry) .ring; timetable-after = now (self .exit) .timetable; ring-after = now (self .exit) .ring }) r ⌝ }
+        ensures same { λ _. ⌜ (now (self .exit) .sheet ≡ now (self .entry) .sheet) × (now (self .exit) .yard ≡ now (self .entry) .yard) ⌝ }
+        ensures within { λ r. ⌜ OnPages r ⌝ }
+    {
+        judged(judge(
+            &self.sheet,
+            &self.yard,
+            rule,
+            &mut self.timetable,
+            &mut self.ring,
+        ))
+    }
+
     // Judges the sheet in the yard under the rule of a line.
     fn judge_under(&mut self, rule: Rule) -> Answer
-        ensures { λ r. ⌜ OnPages r ⌝ }
+        ensures ruled { λ r. ⌜ Ruled (lanes-of (now (self .entry) .yard)) (sheet-book (now (self .entry) .sheet)) (sheet-book (now (self .exit) .sheet)) (record { timetable = now (self .entry) .timetable; ring = now (self .entry) .ring; timetable-after = now (self .exit) .timetable; ring-after = now (self .exit) .ring }) rule r ⌝ }
+        ensures same { λ _. ⌜ (now (self .exit) .sheet ≡ now (self .entry) .sheet) × (now (self .exit) .yard ≡ now (self .entry) .yard) ⌝ }
+        ensures within { λ r. ⌜ OnPages r ⌝ }
     {
-        let timetable = &mut self.timetable;
-        let ring = &mut self.ring;
-        let outcome = match rule {
-            Rule::FullLane => judge(&self.sheet, &self.yard, &FullLane, timetable, ring),
-            Rule::LaneLessOne => judge(&self.sheet, &self.yard, &LaneLessOne, timetable, ring),
+        match rule {
+            Rule::FullLane => self.judge_by(&FullLane),
+            Rule::LaneLessOne => self.judge_by(&LaneLessOne),
             Rule::FixedGap { gap } => {
                 let mut fixed = FixedGap::new();
-                if fixed.set(gap).is_err() {
-                    return Answer::Refused {
+                match fixed.set(gap) {
+                    Ok(()) => self.judge_by(&fixed),
+                    Err(_) => Answer::Refused {
                         refusal: Refusal::Line {
                             why: LineRefusal::BadRule,
                         },
-                    };
+                    },
                 }
-                judge(&self.sheet, &self.yard, &fixed, timetable, ring)
             }
-        };
-        judged(outcome)
+        }
     }
 
     // Does what the entry says.
     fn take(&mut self, entry: Entry) -> Answer
-        ensures { λ r. ⌜ OnPages r ⌝ }
+        ensures answers { λ r. ⌜ Answered (lanes-of (now (self .entry) .yard)) (sheet-book (now (self .entry) .sheet)) (sheet-book (now (self .exit) .sheet)) (record { timetable = now (self .entry) .timetable; ring = now (self .entry) .ring; timetable-after = now (self .exit) .timetable; ring-after = now (self .exit) .ring }) entry r ⌝ }
+        ensures same { λ _. ⌜ now (self .exit) .yard ≡ now (self .entry) .yard ⌝ }
+        ensures within { λ r. ⌜ OnPages r ⌝ }
     {
         match entry {
             Entry::Carrier { start, goal } => entered(self.sheet.enter_carrier(start, goal)),
@@ -147,7 +169,9 @@ impl Session {
 
     // Answers a line of the sheet's input.
     pub fn answer(&mut self, line: &[u8]) -> Answer
-        ensures { λ r. ⌜ OnPages r ⌝ }
+        ensures answers { λ r. ⌜ Line-answered (lanes-of (now (self .entry) .yard)) (sheet-book (now (self .entry) .sheet)) (sheet-book (now (self .exit) .sheet)) (record { timetable = now (self .entry) .timetable; ring = now (self .entry) .ring; timetable-after = now (self .exit) .timetable; ring-after = now (self .exit) .ring }) (reading SheetInput (now (line .entry))) r ⌝ }
+        ensures same { λ _. ⌜ now (self .exit) .yard ≡ now (self .entry) .yard ⌝ }
+        ensures within { λ r. ⌜ OnPages r ⌝ }
     {
         match read_entry(line, Input::Sheet) {
             Ok(entry) => self.take(entry),
@@ -173,7 +197,8 @@ impl Session {
 // What comes of a judging.
 fn judged(outcome: Result<u16, JudgeRefusal>) -> Answer
     requires { ⌜ Within 1024 1024 outcome ⌝ }
-    ensures { λ r. ⌜ OnPages r ⌝ }
+    ensures value { λ r. ⌜ r ≡ judged-as outcome ⌝ }
+    ensures within { λ r. ⌜ OnPages r ⌝ }
 {
     match outcome {
         Ok(stops) => Answer::Passed { stops },
