@@ -1,7 +1,10 @@
 -- What a session answers to a line.
 use mathlib.Core.Path.{_≡_}
 use mathlib.Core.List.{List}
+use mathlib.Core.Bool.{cond}
 use Prim.Native.Nat.{ℕ, _-_, _≤_, _<_}
+use lib.ListN.{take}
+use Rattle.std.specs.Results.{isOk}
 use Rattle.std.specs.declared.option.Option.{Option}
 use Rattle.std.specs.declared.result.Result.{Result}
 use Rattle.std.specs.declared.result.Result.the-variants.{Ok, Err}
@@ -14,11 +17,15 @@ use Rattle.lines.specs.declared.entry.Rule.{Rule}
 use Rattle.lines.specs.declared.entry.Rule.the-variants.{FullLane, LaneLessOne, FixedGap}
 use Rattle.lines.specs.declared.refusal.LineRefusal.{LineRefusal}
 use Rattle.lines.specs.declared.refusal.LineRefusal.the-variants.{UnknownKind, BadRule}
+use Rattle.lines.specs.declared.refusal.WriteRefusal.{WriteRefusal}
+use Rattle.lines.specs.Pages.{written}
+use Rattle.replies.specs.Answers.{Answer as Reply, accepted, passed, ring, refused, line-of, writing}
 use Rattle.plan.specs.Plans.{Lanes, Gaps}
 use Rattle.sheet.specs.Book.{Book}
 use Rattle.sheet.specs.Calls.{Call, enter-carrier, enter-stop, enter-precedence, strike-precedence}
 use Rattle.sheet.specs.Histories.{Enters}
 use Rattle.sheet.specs.declared.refusal.EntryRefusal.{EntryRefusal}
+use Rattle.session.specs.Refusals.{number-of, told-by}
 use Rattle.session.specs.declared.answer.Answer.{Answer}
 use Rattle.session.specs.declared.answer.Answer.the-variants.{Accepted, Passed, Ring, Refused}
 use Rattle.session.specs.declared.answer.Refusal.the-variants.{Line, Entry as OfEntry, Judge as OfJudge}
@@ -64,6 +71,13 @@ pub record Calls (b : Book) (call : Call) (b′ : Book) (a : Answer) : Type 0 wh
   pub enters : Enters b (call, outcome) b′
   pub is : a ≡ entered-as outcome
 
+-- what the reply to an answer says
+abbrev pub said : Change → Answer → Reply
+said p (Accepted number) = accepted number
+said p (Passed stops) = passed (take stops (p .timetable-after))
+said p (Ring long) = ring (take long (p .ring-after))
+said p (Refused refusal) = refused (number-of refusal) (told-by refusal .0) (told-by refusal .1)
+
 -- what an entry is answered, and the book that it leaves
 module _ (lanes : Lanes) (b b′ : Book) (p : Change) where
   abbrev pub Ruled : Rule → Answer → Type 0
@@ -83,3 +97,10 @@ module _ (lanes : Lanes) (b b′ : Book) (p : Change) where
   abbrev pub Line-answered : Result Entry LineRefusal → Answer → Type 0
   Line-answered (Ok entry) a = Answered entry a
   Line-answered (Err why) a = (a ≡ Refused (Line why)) × (b′ ≡ b)
+
+  -- the reply to a line stands at the front of the page, or the page is too short for it and stands
+  pub record Replied (line : Result Entry LineRefusal) (page page′ : List ℕ) (r : Result ℕ WriteRefusal) : Type 0 where
+    pub answer : Answer
+    pub answered : Line-answered line answer
+    pub value : r ≡ writing page 0 (said p answer)
+    pub after : page′ ≡ cond (isOk r) (written page 0 (line-of (said p answer))) page

@@ -10,7 +10,7 @@ ghost use Rattle.lane_yard.specs.Meaning.{lanes-of};
 ghost use Rattle.lines.specs.Reading.{reading};
 ghost use Rattle.lines.specs.declared.entry.Input.the-variants.{Sheet as SheetInput};
 ghost use Rattle.sheet.specs.Sheets.{sheet-book};
-ghost use Rattle.session.specs.Answers.{Answered, Judges, Line-answered, OnPages, Ruled, entered-as, judged-as};
+ghost use Rattle.session.specs.Answers.{Answered, Judges, Line-answered, OnPages, Replied, Ruled, entered-as, judged-as};
 use crate::answer::Answer;
 use crate::answer::Refusal;
 use judge::judging::judge;
@@ -182,7 +182,10 @@ impl Session {
     }
 
     // Answers a line of the sheet's input with its reply, at the front of the page, and says how long the reply is.
-    pub fn reply(&mut self, line: &[u8], page: &mut [u8]) -> Result<usize, WriteRefusal> {
+    pub fn reply(&mut self, line: &[u8], page: &mut [u8]) -> Result<usize, WriteRefusal>
+        ensures replies { λ r. ⌜ Replied (lanes-of (now (self .entry) .yard)) (sheet-book (now (self .entry) .sheet)) (sheet-book (now (self .exit) .sheet)) (record { timetable = now (self .entry) .timetable; ring = now (self .entry) .ring; timetable-after = now (self .exit) .timetable; ring-after = now (self .exit) .ring }) (reading SheetInput (now (line .entry))) (now (page .entry)) (now (page .exit)) r ⌝ }
+        ensures same { λ _. ⌜ now (self .exit) .yard ≡ now (self .entry) .yard ⌝ }
+    {
         match self.answer(line) {
             Answer::Accepted { number } => write_accepted(number, page, 0),
             Answer::Passed { stops } => {
