@@ -1,0 +1,7 @@
+pub mod Causes
+pub mod Departures
+pub mod Facts
+pub mod Judged
+pub mod LaneFaults
+pub mod Lags
+pub mod Ticks
