@@ -9,7 +9,7 @@ use Rattle.lines.specs.declared.entry.Entry.the-variants as entry
 use Rattle.sheet.specs.declared.records.Carrier.{Carrier}
 use Rattle.sheet.specs.declared.records.Stop.{Stop}
 use Rattle.sheet.specs.declared.records.Precedence.{Precedence}
-use Rattle.sheet.specs.Tables.{no-carrier}
+use Rattle.sheet.specs.Records.{no-carrier}
 use Rattle.explain.specs.Facts.{Absent, AtGoal, Orders, Visits}
 use Rattle.explain.specs.declared.cause.Cause.{Cause}
 use Rattle.explain.specs.declared.cause.Cause.the-variants as cause

@@ -6,7 +6,7 @@ use lib.ListN.{getD}
 use Rattle.std.specs.declared.option.Option.{Option}
 use Rattle.std.specs.declared.option.Option.the-variants.{Some}
 use Rattle.sheet.specs.declared.records.Stop.{Stop}
-use Rattle.sheet.specs.Tables.{no-stop}
+use Rattle.sheet.specs.Records.{no-stop}
 
 -- leaving stop s at this tick and driving without pause, the carrier reaches stop t when it arrives there
 pub record Departs (lanes : ℕ → ℕ → Option ℕ) (stops : List Stop) (arrivals : List ℕ) (s t tick : ℕ) : Type 0 where

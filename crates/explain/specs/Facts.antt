@@ -7,7 +7,7 @@ use Rattle.std.specs.declared.option.Option.the-variants.{Some}
 use Rattle.sheet.specs.declared.records.Carrier.{Carrier}
 use Rattle.sheet.specs.declared.records.Stop.{Stop}
 use Rattle.sheet.specs.declared.records.Precedence.{Precedence}
-use Rattle.sheet.specs.Tables.{no-carrier, no-stop, no-precedence}
+use Rattle.sheet.specs.Records.{no-carrier, no-stop, no-precedence}
 
 -- there are so many carriers, and none of this number
 abbrev pub Absent : List Carrier → ℕ → ℕ → Type 0

@@ -8,7 +8,7 @@ use Rattle.std.specs.declared.option.Option.the-variants.{Some, None}
 use Rattle.sheet.specs.declared.records.Carrier.{Carrier}
 use Rattle.sheet.specs.declared.records.Stop.{Stop}
 use Rattle.sheet.specs.declared.records.Precedence.{Precedence}
-use Rattle.sheet.specs.Tables.{no-carrier, no-stop}
+use Rattle.sheet.specs.Records.{no-carrier, no-stop}
 use Rattle.judge.specs.declared.refusal.JudgeRefusal.{JudgeRefusal}
 use Rattle.judge.specs.declared.refusal.JudgeRefusal.the-variants as refusal
 use Rattle.explain.specs.Facts.{GoesTo, Orders, Visits}

@@ -9,7 +9,7 @@ use Rattle.lines.specs.declared.entry.Rule.{Rule}
 use Rattle.lines.specs.declared.entry.Rule.the-variants.{FullLane, LaneLessOne, FixedGap}
 use Rattle.sheet.specs.declared.records.Stop.{Stop}
 use Rattle.sheet.specs.declared.records.Precedence.{Precedence}
-use Rattle.sheet.specs.Tables.{no-stop, no-precedence}
+use Rattle.sheet.specs.Records.{no-stop, no-precedence}
 use Rattle.explain.specs.declared.lag.Lag.{Lag}
 use Rattle.explain.specs.declared.lag.Lag.the-variants.{Travel, Waiting}
 

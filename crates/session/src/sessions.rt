@@ -9,6 +9,8 @@ ghost use Rattle.judge.specs.Settling.{Within};
 ghost use Rattle.lane_yard.specs.Meaning.{lanes-of};
 ghost use Rattle.lines.specs.Reading.{reading};
 ghost use Rattle.lines.specs.declared.entry.Input.the-variants.{Sheet as SheetInput};
+ghost use Rattle.std.specs.Vec.{made};
+ghost use Rattle.sheet.specs.Book.{opened};
 ghost use Rattle.sheet.specs.Sheets.{sheet-book};
 ghost use Rattle.session.specs.Answers.{Answered, Judges, Line-answered, OnPages, Replied, Ruled, entered-as, judged-as};
 use crate::answer::Answer;
@@ -63,7 +65,9 @@ fn entered(outcome: Result<u16, EntryRefusal>) -> Answer
 
 impl Session {
     // Opens a sheet beside the yard.
-    pub fn open(heap: Global, yard: LaneYard) -> Result<Session, AllocError> {
+    pub fn open(heap: Global, yard: LaneYard) -> Result<Session, AllocError>
+        ensures { λ r. ⌜ made r (λ s. (sheet-book (s .sheet) ≡ opened) × (s .yard ≡ yard)) ⌝ }
+    {
         let sheet = Sheet::open(heap)?;
         Ok(Session {
             yard,

@@ -19,6 +19,7 @@ pub trait Yard {
     // Each lane keeps the limits.
     law limited: { (s : Self) (from to : ℕ) → found (lanes s from to) (λ time. LaneWithin from to time) };
 
+    // The travel time of the lane between two places, or none where there is no lane.
     fn travel_time(&self, from: u16, to: u16) -> Option<u16>
         ensures { λ r. ⌜ r ≡ lanes (now (self .entry)) from to ⌝ };
 }
@@ -34,15 +35,19 @@ pub trait FollowingRule {
     // The gap behind a carrier that goes from place to place in a travel time.
     ghost gaps: { Self → ℕ → ℕ → ℕ → ℕ };
 
-    // What LARGEST_GAP says.
+    // The number that LARGEST_GAP names.
     ghost largest: { ℕ };
 
+    // LARGEST_GAP names it.
     law named: { Largest·Constant .value ≡ largest };
 
+    // It is at most 100,000.
     law small: { largest ≤ 100000 };
 
+    // No gap of a lane is above it.
     law bounded: { (s : Self) (from to time : ℕ) → 1 ≤ time → time ≤ 36000 → gaps s from to time ≤ largest };
 
+    // The gap behind a carrier that goes from place to place in a travel time.
     fn gap(&self, from: u16, to: u16, time: u16) -> u32
         ensures { λ r. ⌜ r ≡ gaps (now (self .entry)) from to time ⌝ };
 }

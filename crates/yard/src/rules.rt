@@ -7,7 +7,7 @@ use crate::constant::Exactly;
 use crate::constant::ExactlyConstant;
 use crate::refusal::GapRefusal;
 
-// Full lane: nobody reaches the place before the carrier that left it is at the other end.
+// Full lane: the place may be reached in the tick after the carrier that left it reaches the other end.
 #[derive(Clone, Copy)]
 pub struct FullLane;
 
