@@ -1,4 +1,6 @@
 // yardexplain, run on the example of the crossing.
+#![tactic(auto)]
+
 use std::io;
 
 fn main(rt: HostRuntime) -> io::Result<()> {

@@ -1,4 +1,6 @@
 // Explaining a sheet in words: what each line says, what came of it, and why.
+#![tactic(auto)]
+
 mod answers;
 mod cause;
 mod causes;

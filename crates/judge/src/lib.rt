@@ -1,4 +1,6 @@
 // Judging: whether a sheet can be driven in a yard under a following rule, and how early.
+#![tactic(auto)]
+
 pub mod judging;
 mod legs;
 mod meetings;

@@ -1,4 +1,6 @@
 // Records that tell their key, and the one search by key that serves them all.
+#![tactic(auto)]
+
 ghost use Rattle.std.specs.Prelude.{◌≡◌, Decides, MatchOption};
 ghost use Rattle.keyed.specs.Search.{First, Nowhere};
 

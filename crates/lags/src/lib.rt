@@ -1,4 +1,6 @@
 // Lags between numbered nodes: the least arrivals that keep every lag, or a ring that no arrivals keep.
+#![tactic(auto)]
+
 ghost use Rattle.lags.specs.Solved.{Solved};
 
 use ends::count_ends;

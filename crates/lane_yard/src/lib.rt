@@ -1,4 +1,6 @@
 // The lane yard: a yard whose lanes are a list of records.
+#![tactic(auto)]
+
 mod checks;
 pub mod lane;
 pub mod refusal;

@@ -1,4 +1,6 @@
 // Lines of hexadecimal digits: read into entries, and written from them into a page.
+#![tactic(auto)]
+
 mod digits;
 pub mod entry;
 pub mod page;

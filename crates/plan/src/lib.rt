@@ -1,4 +1,6 @@
 // Timed plans of a sheet in a yard under a following rule, their conflicts, and the lags that say which of them there are.
+#![tactic(auto)]
+
 ghost use Rattle.plan.specs.Theorems.{LagsDecide};
 
 // A timed plan keeps the precedences and is free of conflict exactly when it keeps every lag, unless two stops are set

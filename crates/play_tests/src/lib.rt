@@ -1,4 +1,5 @@
 // Whole runs on worked examples; the expected values are those of docs/JUDGING.md.
+#![tactic(auto)]
 
 #[cfg(test)]
 mod tests;

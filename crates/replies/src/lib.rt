@@ -1,3 +1,5 @@
 // Replies, written as lines into a page.
+#![tactic(auto)]
+
 mod list;
 pub mod reply;

@@ -1,4 +1,6 @@
 // What a yard and a following rule are, known by their meanings alone, and the three rules.
+#![tactic(auto)]
+
 ghost use Rattle.std.specs.Prelude.{◌≡◌, ℕ, ◌≤◌, IfSome, Option};
 ghost use Rattle.yard.specs.Limits.{LaneWithin};
 

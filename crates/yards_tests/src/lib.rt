@@ -1,4 +1,5 @@
 // Tests of the search by key, the yards and the following rules, on examples.
+#![tactic(auto)]
 
 #[cfg(test)]
 mod tests {
