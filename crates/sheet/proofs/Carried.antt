@@ -9,12 +9,24 @@ use Rattle.sheet.specs.Tables.{book_of, NumberedTables, CarriersInside, StopsIns
 use Rattle.sheet.proofs.Inside.{carriers_inside, stops_inside, stops_linked, precedences_inside}
 use Rattle.sheet.proofs.Soundness.{sound_opened}
 
--- the ghost fields behind the room and the limits, in their order
-abbrev pub Carries : Tables → Type 0
-Carries t = Holds (Sound (book_of t)) × (Holds (NumberedTables t) × (CarriersInside (vec_len t.stops) (vec_items t.carriers) × (StopsInside (vec_len t.carriers) (vec_items t.stops) × (Linked (vec_items t.stops) × (PrecedencesInside (vec_len t.carriers) (vec_len t.stops) (vec_items t.precedences) × Unit {0})))))
+-- the ghost fields behind the room and the limits
+pub record Carries (t : Tables) : Type 0 where
+  pub sound : Holds (Sound (book_of t))
+  pub numbered : Holds (NumberedTables t)
+  pub latest : CarriersInside (vec_len t.stops) (vec_items t.carriers)
+  pub carried : StopsInside (vec_len t.carriers) (vec_items t.stops)
+  pub linked : Linked (vec_items t.stops)
+  pub lawful : PrecedencesInside (vec_len t.carriers) (vec_len t.stops) (vec_items t.precedences)
 
 pub carries : (t : Tables) → Sound (book_of t) → NumberedTables t → Carries t
-carries t sound right = (∣ sound ∣₁, (∣ right ∣₁, (carriers_inside t sound right, (stops_inside t sound right, (stops_linked t sound right, (precedences_inside t sound right, tt))))))
+carries t sound right = record {
+  sound = ∣ sound ∣₁;
+  numbered = ∣ right ∣₁;
+  latest = carriers_inside t sound right;
+  carried = stops_inside t sound right;
+  linked = stops_linked t sound right;
+  lawful = precedences_inside t sound right;
+}
 
 numbered_none : Numbered [] [] []
 numbered_none = record {

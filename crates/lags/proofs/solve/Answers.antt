@@ -2,22 +2,22 @@ use Rattle.std.proofs.Common.{length, refl, arith}
 use Rattle.lags.proofs.Fits.{fit_inside, fit_ends, fit_allowed, zeros_low}
 use Rattle.lags.proofs.solve.Goals as goal
 
-pub count-ends-requires : goal.count-ends-requires
-count-ends-requires c = let f = c.if-not-is-fit.ensures.0 refl in fit_ends _ _ _ f 1024 f.few
+pub count_ends-requires : goal.count_ends-requires
+count_ends-requires c = let f = c.if-not-is_fit.ensures.0 refl in fit_ends _ _ _ f 1024 f.few
 
 pub settle-requires : goal.settle-requires
 settle-requires c =
-    let f = c.if-not-is-fit.ensures.0 refl in
+    let f = c.if-not-is_fit.ensures.0 refl in
     record {
       allowed = (fit_allowed _ _ _ f _ c.fill.ensures.len, omega (arith, f.few, c.fill.ensures.len));
       short = f.short;
-      ends = (c.count-ends.ensures.exact, c.count-ends.ensures.few);
+      ends = (c.count_ends.ensures.exact, c.count_ends.ensures.few);
       zero = zeros_low _ _ (c.fill.ensures.after (λ y h. h));
     }
 
-pub write-ring-requires : goal.write-ring-requires
-write-ring-requires c =
-    let f = c.if-not-is-fit.ensures.0 refl in
+pub write_ring-requires : goal.write_ring-requires
+write_ring-requires c =
+    let f = c.if-not-is_fit.ensures.0 refl in
     record {
       inside = (
         fit_inside _ _ _ f (length c.settle.new.parents) (omega (arith, f.few, c.settle.auto.parents)),
@@ -29,4 +29,4 @@ write-ring-requires c =
 
 pub returns-in-Some : goal.returns-in-Some
 returns-in-Some c =
-    let f = c.if-not-is-fit.ensures.0 refl in (f, c.write-ring.ensures (length c.args.arrivals.now) (fit_inside _ _ _ f (length c.args.arrivals.now) (omega arith)))
+    let f = c.if-not-is_fit.ensures.0 refl in (f, c.write_ring.ensures (length c.args.arrivals.now) (fit_inside _ _ _ f (length c.args.arrivals.now) (omega arith)))

@@ -14,8 +14,8 @@ bounds-marks-lag c = All-get_or (λ g. g.to < 1024) c.args.lags.now c.loop-lag.l
 pub bounds-marks-lag-then-not-marks-lag : goal.bounds-marks-lag-then-not-marks-lag
 bounds-marks-lag-then-not-marks-lag c = All-get_or (λ g. g.to < 1024) c.args.lags.now c.loop-lag.lag-index no_lag c.loop-lag-test.true c.requires
 
-pub overflow-add-ends : goal.overflow-add-ends
-overflow-add-ends c = omega (arith, marking_few _ _ _ _ c.loop-lag.invariant)
+pub overflow_add-ends : goal.overflow_add-ends
+overflow_add-ends c = omega (arith, marking_few _ _ _ _ c.loop-lag.invariant)
 
 pub loop-lag-preserved : goal.loop-lag-preserved
 loop-lag-preserved c =

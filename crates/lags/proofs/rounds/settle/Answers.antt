@@ -7,16 +7,16 @@ use Rattle.lags.proofs.rounds.settle.Goals as goal
 pub loop-init : goal.loop-init
 loop-init c = rounds_none _ _ _ c.requires.zero
 
-pub returns-in-err-raise-round : goal.returns-in-err-raise-round
-returns-in-err-raise-round c =
-    rw c.from-residual.ensures
-    (earliest _ _ _ _ _ _ (c.raise-round.ensures.progress _ c.loop.invariant).progress (c.raise-round.ensures.quiet c.in-err-raise-round.was) c.requires.allowed.0
-    (c.raise-round.auto.arrivals ∙ c.loop.auto.arrivals))
+pub returns-in_err-raise_round : goal.returns-in_err-raise_round
+returns-in_err-raise_round c =
+    rw c.from_residual.ensures
+    (earliest _ _ _ _ _ _ (c.raise_round.ensures.progress _ c.loop.invariant).progress (c.raise_round.ensures.quiet c.in_err-raise_round.was) c.requires.allowed.0
+    (c.raise_round.auto.arrivals ∙ c.loop.auto.arrivals))
 
 pub loop-preserved : goal.loop-preserved
-loop-preserved c = rounds_more _ _ _ _ (c.raise-round.ensures.progress _ c.loop.invariant).progress
+loop-preserved c = rounds_more _ _ _ _ (c.raise_round.ensures.progress _ c.loop.invariant).progress
 
 pub returns : goal.returns
 returns c =
-    last_round _ _ _ _ _ _ _ _ _ (omega arith) c.requires.ends.0 c.loop.invariant c.raise-round-2.ensures.progress c.raise-round-2.ensures.quiet c.raise-round-2.ensures.within
-    c.requires.allowed.0 c.loop.auto.arrivals (c.raise-round-2.auto.arrivals ∙ c.loop.auto.arrivals)
+    last_round _ _ _ _ _ _ _ _ _ (omega arith) c.requires.ends.0 c.loop.invariant c.raise_round-2.ensures.progress c.raise_round-2.ensures.quiet c.raise_round-2.ensures.within
+    c.requires.allowed.0 c.loop.auto.arrivals (c.raise_round-2.auto.arrivals ∙ c.loop.auto.arrivals)

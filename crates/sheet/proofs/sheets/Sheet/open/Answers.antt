@@ -5,19 +5,20 @@ use Rattle.sheet.proofs.Determined.{calls_decide}
 use Rattle.sheet.proofs.Soundness.{ever_sound}
 use Rattle.sheet.proofs.sheets.Sheet.open.Goals as goal
 
-pub invariant-of-result : goal.invariant-of-result
-invariant-of-result c =
-    let t : Tables = record { carriers = c.in-ok-carriers.carriers; stops = c.in-ok-stops.stops; precedences = c.in-ok-precedences.precedences } in
-    (search rules, (search rules, carries_opened t (search rules) (search rules) (search rules)))
+pub invariant_of-result : goal.invariant_of-result
+invariant_of-result c =
+    let t : Tables = record { carriers = c.in_ok-carriers.carriers; stops = c.in_ok-stops.stops; precedences = c.in_ok-precedences.precedences } in
+    let kept = carries_opened t (search rules) (search rules) (search rules) in
+    record { room = search rules; limits = search rules; sound = kept.sound; numbered = kept.numbered; latest = kept.latest; carried = kept.carried; linked = kept.linked; lawful = kept.lawful }
 
-pub returns-in-err-carriers : goal.returns-in-err-carriers
-returns-in-err-carriers c = record { opens = search rules; begins = search rules; always = ever_sound; decided = calls_decide }
+pub returns-in_err-carriers : goal.returns-in_err-carriers
+returns-in_err-carriers c = record { opens = search rules; begins = search rules; always = ever_sound; decided = calls_decide }
 
-pub returns-in-err-stops : goal.returns-in-err-stops
-returns-in-err-stops c = record { opens = search rules; begins = search rules; always = ever_sound; decided = calls_decide }
+pub returns-in_err-stops : goal.returns-in_err-stops
+returns-in_err-stops c = record { opens = search rules; begins = search rules; always = ever_sound; decided = calls_decide }
 
-pub returns-in-err-precedences : goal.returns-in-err-precedences
-returns-in-err-precedences c = record { opens = search rules; begins = search rules; always = ever_sound; decided = calls_decide }
+pub returns-in_err-precedences : goal.returns-in_err-precedences
+returns-in_err-precedences c = record { opens = search rules; begins = search rules; always = ever_sound; decided = calls_decide }
 
 pub returns : goal.returns
 returns c = record { opens = search rules; begins = search rules; always = ever_sound; decided = calls_decide }

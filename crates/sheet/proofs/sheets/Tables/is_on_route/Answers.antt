@@ -3,4 +3,4 @@ use Rattle.sheet.proofs.Found.{some_found}
 use Rattle.sheet.proofs.sheets.Tables.is_on_route.Goals as goal
 
 pub returns : goal.returns
-returns c = Decides-at _ _ c.is-some.ensures (some_found _ _ c.stop-at.ensures.finds)
+returns c = Decides-at _ _ c.is_some.ensures (some_found _ _ c.stop_at.ensures.finds)

@@ -4,6 +4,6 @@ use Rattle.sheet.proofs.sheets.Tables.stop_at.Goals as goal
 
 pub returns : goal.returns
 returns c = record {
-  finds = stop_found c.args.self.now _ _ _ _ c.as-slice.ensures.value c.find.ensures;
+  finds = stop_found c.args.self.now _ _ _ _ c.as_slice.ensures.value c.find.ensures;
   within = search rules;
 }
