@@ -1,6 +1,6 @@
 -- From what judging found to what it answers, in the words of the subject.
 use Rattle.std.proofs.Common.{◌≡◌, ℕ, ◌+◌, ◌-◌, ◌*◌, ◌<◌, ◌≤◌, max, Bool, true, false, cond, eqb, ◌≢◌, ◌⊎◌, List, length, get_or, ℤ, pos, ◌+ℤ◌, ◌-ℤ◌, ◌≤ℤ◌, IfSome, is_ok, Some, None, Ok, Err, vec_items, Option, Result, sym, refl, ap, ◌∙◌, subst, inl, inr, ⊎_elim, lt_of_not-le, arith}
-use native.Mathlib.Nat.{le_min, min_le_left, min_le_right}
+use native.Mathlib.Nat.{le-min, min-le_left, min-le_right}
 use Rattle.std.proofs.lemmas.List.{length-map}
 use Rattle.std.proofs.lemmas.Int.{ints}
 use Rattle.std.proofs.lemmas.Bool.{cases_eq, eq-eqb, ne_eqb, both_ways}
@@ -228,12 +228,12 @@ module _ (sheet : Sheet) (lanes : Lanes) (gap : Gaps) (largest : ℕ) (limited :
 
     -- the pages have a number for each stop just when they have one for each record of a stop
     long : Fits → length b.stops ≤ room_of p
-    long f = rw stops_long (le_min f.0 f.1)
+    long f = rw stops_long (le-min f.0 f.1)
 
     pub judged_short : (Fits → ⊥) → Untouched p → Judged (judging (Err PageTooShort)) b
     judged_short no_fit u = record {
       found = None;
-      concludes = lt_of_not-le (λ l. no_fit (let e = stops_long in let left = min_le_left (length p.timetable) (length p.ring) in let right = min_le_right (length p.timetable) (length p.ring) in (omega arith, omega arith)));
+      concludes = lt_of_not-le (λ l. no_fit (let e = stops_long in let left = min-le_left (length p.timetable) (length p.ring) in let right = min-le_right (length p.timetable) (length p.ring) in (omega arith, omega arith)));
       shown = (refl, u);
     }
 

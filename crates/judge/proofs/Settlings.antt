@@ -1,6 +1,6 @@
 -- From the lags that were gathered to what is written on the pages.
 use Rattle.std.proofs.Common.{◌≡◌, ℕ, ◌+◌, ◌-◌, ◌*◌, ◌^◌, ◌<◌, ◌≤◌, max, ◌⊎◌, List, ◌++◌, length, get_or, take, drop, ℤ, pos, negsuc, ◌-ℤ◌, ◌≤ℤ◌, Some, None, Option, sym, refl, ap, ◌∙◌, subst, inl, inr, ⊎_elim, arith}
-use native.Mathlib.Nat.{le_max_left, le_max_right}
+use native.Mathlib.Nat.{le-max_left, le-max_right}
 use Rattle.std.specs.List.{ContainsAt as Has, AllByRecursion as All}
 use Rattle.std.proofs.ByRecursion.{All-from_get_or, has_get_or}
 use Rattle.std.proofs.lemmas.List.{get_or-take, length-take-le, take-append-drop}
@@ -70,8 +70,8 @@ module _ (gap : ℕ → ℕ → ℕ → ℕ) (largest : ℕ) (small : largest �
 
   under_one : (g : Lag) → LagOf gap stops times nexts ps (length stops) (length ps) g → g.weight ≤ℤ pos (max 36000 largest)
   under_one g l =
-      let a = le_max_left 36000 largest in
-      let b = le_max_right 36000 largest in
+      let a = le-max_left 36000 largest in
+      let b = le-max_right 36000 largest in
       ⊎_elim
       (λ t. let time = ready.stepped g.to g.from t.within t.step in let weighs = t.weighs in omega (arith, ints))
       (λ w.

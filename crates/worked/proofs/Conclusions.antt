@@ -1,7 +1,7 @@
 -- What a judging finds in a book, by tests.
 use Rattle.std.proofs.Common.{◌≡◌, ℕ, zero, suc, ◌-◌, ◌*◌, ◌<◌, ◌≤◌, max, Bool, true, false, cond, not, ◌&&◌, ◌||◌, T, eqb, ltb, leb, List, [], ◌∷◌, map, length, get_or, ℤ, pos, ◌+ℤ◌, Some, None, Option, sym, refl, ◌∙◌, subst, inl, inr, ⊎_elim, le_trans, mul-le-mul_left, arith}
 use mathlib.Core.Path.{subst₃}
-use native.Mathlib.Nat.{le_max_left}
+use native.Mathlib.Nat.{le-max_left}
 use lib.Signed.{le_z, lt_z}
 use Rattle.std.specs.List.{slice_get}
 use Rattle.std.proofs.iter.runs.Lists.{none-some, same_Some}
@@ -152,7 +152,7 @@ module _ (y : Setting) (b : Book) where
   top = (length b.stops - 1) * 36000
 
   top_low : (n : ℕ) → n ≤ top → n ≤ (length b.stops - 1) * max 36000 y.largest
-  top_low n h = le_trans h (mul-le-mul_left (length b.stops - 1) (le_max_left 36000 y.largest))
+  top_low n h = le_trans h (mul-le-mul_left (length b.stops - 1) (le-max_left 36000 y.largest))
 
   -- one arrival for each stop, none above the ceiling, each lag kept, and 0 at each start
   abbrev pub fits? : List ℕ → Bool

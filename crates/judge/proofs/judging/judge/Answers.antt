@@ -12,8 +12,8 @@ use Rattle.judge.proofs.Routings.{routed_same, routed_within}
 use Rattle.judge.proofs.Tabled.{consistent}
 use Rattle.judge.proofs.judging.judge.Goals as goal
 
-pub judge-routes-requires : goal.judge-routes-requires
-judge-routes-requires g c =
+pub judge_routes-requires : goal.judge_routes-requires
+judge_routes-requires g c =
     let own = c.args.sheet.now in
     let long = own.tables.stops.ok.0 in
     let many = own.tables.precedences.ok.0 in
@@ -34,17 +34,17 @@ returns-then-timetable-stops g c =
     (λ f. ⊎_elim (λ a. omega (arith, f.0)) (λ a. omega (arith, f.1, a.1)) c.then-timetable-stops.either) (refl, refl) in
     record { judges = J; exactly = exactly (judging_of lanes gaps g.R.FollowingRule.largest c.args.timetable.now c.args.ring.now c.args.timetable.now c.args.ring.now (Err PageTooShort)) (sheet_book own) J; goes_on = goes_on (judging_of lanes gaps g.R.FollowingRule.largest c.args.timetable.now c.args.ring.now c.args.timetable.now c.args.ring.now (Err PageTooShort)) (sheet_book own) J; within = tt }
 
-pub returns-in-err-check-goals : goal.returns-in-err-check-goals
-returns-in-err-check-goals g c =
+pub returns-in_err-check_goals : goal.returns-in_err-check_goals
+returns-in_err-check_goals g c =
     let own = c.args.sheet.now in
     let lanes = g.Y.Yard.lanes c.args.yard.now in
     let gaps = g.R.FollowingRule.gaps c.args.rule.now in
     let pages : Pages = record { timetable = c.args.timetable.now; ring = c.args.ring.now; timetable_after = c.args.timetable.now; ring_after = c.args.ring.now } in
     let long = ap length c.stops-stops.ensures in
-    let away = c.in-err-check-goals.ensures in
+    let away = c.in_err-check_goals.ensures in
     let low = subst (λ xs. Lowest (ShortOfGoal xs) away.0) c.carriers.ensures away.2 in
     let J = judged_away own lanes gaps g.R.FollowingRule.largest (g.met.Y.Yard.limited _) pages (omega arith, omega arith) away.0 low (refl, refl) in
-    let p = err_from_is_err_and c.from-residual.result c.from-residual.ensures.1 in
+    let p = err_from_is_err_and c.from_residual.result c.from_residual.ensures.1 in
     rw (p.1, p.2, away.1) (record { judges = J; exactly = exactly (judging_of lanes gaps g.R.FollowingRule.largest c.args.timetable.now c.args.ring.now c.args.timetable.now c.args.ring.now (Err (NotAtGoal away.0))) (sheet_book own) J; goes_on = goes_on (judging_of lanes gaps g.R.FollowingRule.largest c.args.timetable.now c.args.ring.now c.args.timetable.now c.args.ring.now (Err (NotAtGoal away.0))) (sheet_book own) J; within = tt })
 
 pub returns : goal.returns
@@ -56,16 +56,16 @@ returns g c =
     let lanes = g.Y.Yard.lanes c.args.yard.now in
     let gaps = g.R.FollowingRule.gaps c.args.rule.now in
     let largest = g.R.FollowingRule.largest in
-    let pages : Pages = record { timetable = c.args.timetable.now; ring = c.args.ring.now; timetable_after = c.judge-routes.new.timetable; ring_after = c.judge-routes.new.ring } in
-    let routed : Routed lanes gaps (max 36000 largest) (vec_items own.tables.stops) (vec_items own.tables.precedences) pages c.judge-routes.result =
-    routed_same lanes gaps (max 36000 largest) pages c.judge-routes.result _ _ _ _ stops precedences c.judge-routes.ensures in
-    let home : (k : ℕ) → ShortOfGoal (vec_items own.tables.carriers) k → ⊥ = subst (λ xs. (k : ℕ) → ShortOfGoal xs k → ⊥) carriers c.in-ok-check-goals.ensures in
+    let pages : Pages = record { timetable = c.args.timetable.now; ring = c.args.ring.now; timetable_after = c.judge_routes.new.timetable; ring_after = c.judge_routes.new.ring } in
+    let routed : Routed lanes gaps (max 36000 largest) (vec_items own.tables.stops) (vec_items own.tables.precedences) pages c.judge_routes.result =
+    routed_same lanes gaps (max 36000 largest) pages c.judge_routes.result _ _ _ _ stops precedences c.judge_routes.ensures in
+    let home : (k : ℕ) → ShortOfGoal (vec_items own.tables.carriers) k → ⊥ = subst (λ xs. (k : ℕ) → ShortOfGoal xs k → ⊥) carriers c.in_ok-check_goals.ensures in
     let long = ap length stops in
-    let j = judging_of lanes gaps largest c.args.timetable.now c.args.ring.now c.judge-routes.new.timetable c.judge-routes.new.ring c.judge-routes.result in
-    let J = judged_routed own lanes gaps largest (g.met.Y.Yard.limited _) pages (omega arith, omega arith) home c.judge-routes.result routed in
+    let j = judging_of lanes gaps largest c.args.timetable.now c.args.ring.now c.judge_routes.new.timetable c.judge_routes.new.ring c.judge_routes.result in
+    let J = judged_routed own lanes gaps largest (g.met.Y.Yard.limited _) pages (omega arith, omega arith) home c.judge_routes.result routed in
     record {
       judges = J;
       exactly = exactly j (sheet_book own) J;
       goes_on = goes_on j (sheet_book own) J;
-      within = routed_within lanes gaps (max 36000 largest) _ _ pages (omega arith) c.judge-routes.auto.ring c.judge-routes.result c.judge-routes.ensures;
+      within = routed_within lanes gaps (max 36000 largest) _ _ pages (omega arith) c.judge_routes.auto.ring c.judge_routes.result c.judge_routes.ensures;
     }

@@ -15,8 +15,8 @@ pub loop-i-preserved : goal.loop-i-preserved
 loop-i-preserved c =
     let i = c.loop-i.i in
     let p : line_bytes (drop (2 * i) c.args.line.now) ≡ byte (get_or c.args.line.now (2 * i) 0) (get_or c.args.line.now (2 * i + 1) 0) ∷ line_bytes (drop (2 * (i + 1)) c.args.line.now) = pair c.args.line.now i (search rules) in
-    let t = take_more_set c.loop-i.decoded i (c.value-or-zero.result * 16 + c.value-or-zero-in-loop-i.result) (search rules) in
-    let a = append_assoc (take i c.loop-i.decoded) ((c.value-or-zero.result * 16 + c.value-or-zero-in-loop-i.result) ∷ []) (line_bytes (drop (2 * (i + 1)) c.args.line.now)) in
+    let t = take_more_set c.loop-i.decoded i (c.value_or_zero.result * 16 + c.value_or_zero-in-loop-i.result) (search rules) in
+    let a = append_assoc (take i c.loop-i.decoded) ((c.value_or_zero.result * 16 + c.value_or_zero-in-loop-i.result) ∷ []) (line_bytes (drop (2 * (i + 1)) c.args.line.now)) in
     cc
 
 pub returns : goal.returns

@@ -3,8 +3,8 @@ use Rattle.std.proofs.lemmas.List.{at_drop_more, at_drop_all}
 use Rattle.lines.specs.Digits.{first_bad_lem, value_of}
 use Rattle.lines.proofs.digits.first_bad.Goals as goal
 
-pub returns-then-is-none : goal.returns-then-is-none
-returns-then-is-none c =
+pub returns-then-is_none : goal.returns-then-is_none
+returns-then-is_none c =
     let xs = c.args.line.now in
     let i = c.loop-i.i in
     let e : first_bad_lem (drop i xs) ≡ cond (is_some (value_of (get_or xs i 0))) (suc (first_bad_lem (drop (i + 1) xs))) 0 = at_drop_more first_bad_lem xs i 0 (search rules) in

@@ -23,7 +23,7 @@ returns c =
     let at = c.args.at in
     let value : ◌≡◌ {A = Result ℕ WriteRefusal} (Ok (2 * length bs)) (placing page at (digits bs)) = grind (arith, nat_tests, length_digits bs) in
     let after = landed page c.encode.new.part bs at (search rules) c.encode.ensures in
-    let small = All-from_get_or (λ b. b < 256) bs 0 (λ i _. omega (arith, c.type-inv.bytes i)) in
+    let small = All-from_get_or (λ b. b < 256) bs 0 (λ i _. omega (arith, c.type_inv.bytes i)) in
     record {
       value = value;
       after = after;

@@ -7,29 +7,29 @@ use Rattle.lines.proofs.Readings.{any_saying, long_line, bad_line, odd_line, eve
 use Rattle.lines.proofs.RoundTrip.{exactly, of_kept}
 use Rattle.lines.proofs.read.read_entry.Goals as goal
 
-pub returns-in-default : goal.returns-in-default
-returns-in-default c =
+pub returns-in_default : goal.returns-in_default
+returns-in_default c =
     let input = c.args.input in
     let line = c.args.line.now in
     let s = long_line input line (search rules) in
     record { said = s; exact = exactly input line _ s; column = of_column input line _ s; kept = of_kept input line _ s }
 
-pub returns-in-err-check-digits : goal.returns-in-err-check-digits
-returns-in-err-check-digits c =
+pub returns-in_err-check_digits : goal.returns-in_err-check_digits
+returns-in_err-check_digits c =
     let input = c.args.input in
     let line = c.args.line.now in
-    let p = err_from_is_err_and c.from-residual.result c.from-residual.ensures.1 in
-    let w = c.in-err-check-digits.was in
+    let p = err_from_is_err_and c.from_residual.result c.from_residual.ensures.1 in
+    let w = c.in_err-check_digits.was in
     let b : ltb (first_bad_lem line) (length line) ≡ true = grind arith in
     let l = bad_line input line (search rules) b in
-    let s : c.from-residual.result ≡ reading input line = grind arith in
+    let s : c.from_residual.result ≡ reading input line = grind arith in
     record { said = s; exact = exactly input line _ s; column = of_column input line _ s; kept = of_kept input line _ s }
 
-pub returns-in-default-2 : goal.returns-in-default-2
-returns-in-default-2 c =
+pub returns-in_default-2 : goal.returns-in_default-2
+returns-in_default-2 c =
     let input = c.args.input in
     let line = c.args.line.now in
-    let w = c.in-ok-check-digits.was in
+    let w = c.in_ok-check_digits.was in
     let b : ltb (first_bad_lem line) (length line) ≡ false = grind arith in
     let s = odd_line input line (search rules) b (search rules) in
     record { said = s; exact = exactly input line _ s; column = of_column input line _ s; kept = of_kept input line _ s }
@@ -38,9 +38,9 @@ pub returns : goal.returns
 returns c =
     let input = c.args.input in
     let line = c.args.line.now in
-    let w = c.in-ok-check-digits.was in
+    let w = c.in_ok-check_digits.was in
     let b : ltb (first_bad_lem line) (length line) ≡ false = grind arith in
     let l = even_line input line (search rules) b (search rules) in
     let e : take (length line / 2 - 0) c.decode.new.decoded ≡ line_bytes line = grind arith in
-    let s = c.read-bytes.ensures ∙ ap (any_saying input) e ∙ l in
+    let s = c.read_bytes.ensures ∙ ap (any_saying input) e ∙ l in
     record { said = s; exact = exactly input line _ s; column = of_column input line _ s; kept = of_kept input line _ s }

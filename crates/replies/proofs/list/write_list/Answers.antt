@@ -11,18 +11,18 @@ pub returns-then-at-page : goal.returns-then-at-page
 returns-then-at-page g c =
     let xs = c.args.numbers.now in
     let few : length xs < 65536 = c.in-Ok.ensures.0 in
-    let p : 2 * c.byte-count.result * length xs ≡ 2 * g.N.Listed.size * length xs = cc in
+    let p : 2 * c.byte_count.result * length xs ≡ 2 * g.N.Listed.size * length xs = cc in
     record {
       value = too_short g.N.Listed.bytes g.N.Listed.size g.met.N.Listed.sized c.args.code xs c.args.page.now c.args.at few (search rules);
       after = search rules;
       back = λ n h. let z : ◌≡◌ {A = ℕ} 0 1 = cc in absurd (omega arith);
     }
 
-pub write-numbers-requires : goal.write-numbers-requires
-write-numbers-requires g c =
+pub write_numbers-requires : goal.write_numbers-requires
+write_numbers-requires g c =
     let xs = c.args.numbers.now in
-    let page = c.write-bytes.new.page in
-    let p : 2 * c.byte-count.result * length xs ≡ 2 * g.N.Listed.size * length xs = cc in
+    let page = c.write_bytes.new.page in
+    let p : 2 * c.byte_count.result * length xs ≡ 2 * g.N.Listed.size * length xs = cc in
     let j = length_joined g.N.Listed.bytes g.N.Listed.size g.met.N.Listed.sized xs in
     let m = mul_assoc 2 g.N.Listed.size (length xs) in
     let d = length-drop (c.args.at + 6) page in
@@ -39,11 +39,11 @@ returns g c =
     let page = c.args.page.now in
     let at = c.args.at in
     let few : length xs < 65536 = c.in-Ok.ensures.0 in
-    let p : 2 * c.byte-count.result * length xs ≡ 2 * size * length xs = cc in
+    let p : 2 * c.byte_count.result * length xs ≡ 2 * size * length xs = cc in
     let n : c.in-Ok.count ≡ length xs = c.in-Ok.ensures.1 in
-    let b : code ∷ get_or c.to-be-bytes.result 0 0 ∷ get_or c.to-be-bytes.result 1 0 ∷ [] ≡ code ∷ two (length xs) [] = search rules in
+    let b : code ∷ get_or c.to_be_bytes.result 0 0 ∷ get_or c.to_be_bytes.result 1 0 ∷ [] ≡ code ∷ two (length xs) [] = search rules in
     let value = ap (λ (k : ℕ). Ok (6 + k)) p ∙ fitting f size sized code xs page at few (search rules) in
-    let after = both_written f size sized code xs page at few _ c.write-bytes.new.page c.write-numbers.new.part (omega arith) b c.in-ok-write-bytes.ensures.after c.write-numbers.ensures.after in
+    let after = both_written f size sized code xs page at few _ c.write_bytes.new.page c.write_numbers.new.part (omega arith) b c.in_ok-write_bytes.ensures.after c.write_numbers.ensures.after in
     let small = small_listed f size sized code xs page at few (omega (arith, c.ranges.code)) g.met.N.Listed.small in
     record {
       value = value ∙ counting f size sized code xs page at few;

@@ -7,8 +7,8 @@ use Rattle.replies.proofs.reply.write_accepted.Goals as goal
 pub returns : goal.returns
 unfolding line_of
 returns c =
-    let w = c.write-bytes in
-    let n = c.to-be-bytes.result in
+    let w = c.write_bytes in
+    let n = c.to_be_bytes.result in
     let made : 0 ∷ get_or n 0 0 ∷ get_or n 1 0 ∷ [] ≡ bytes_of (accepted c.args.number) = search rules in
     record {
       value = search rules;

@@ -9,9 +9,9 @@ pub returns : goal.returns
 unfolding line_of
 returns c =
     let xs = c.args.arrivals.now in
-    let w = c.write-list in
+    let w = c.write_list in
     record {
       value = w.ensures.value;
       after = w.ensures.after;
-      back = λ n h. ap (understood judging) (w.ensures.back n h) ∙ passed_back xs (few (length xs) _ n (sym w.ensures.value ∙ h)) (All-from_get_or (λ x. x < 2 ^ 32) xs 0 (λ i _. omega (arith, c.type-inv.arrivals i)));
+      back = λ n h. ap (understood judging) (w.ensures.back n h) ∙ passed_back xs (few (length xs) _ n (sym w.ensures.value ∙ h)) (All-from_get_or (λ x. x < 2 ^ 32) xs 0 (λ i _. omega (arith, c.type_inv.arrivals i)));
     }

@@ -7,9 +7,9 @@ use Rattle.replies.proofs.reply.write_refused.Goals as goal
 pub returns : goal.returns
 unfolding line_of
 returns c =
-    let w = c.write-bytes in
-    let f = c.to-be-bytes.result in
-    let s = c.to-be-bytes-2.result in
+    let w = c.write_bytes in
+    let f = c.to_be_bytes.result in
+    let s = c.to_be_bytes-2.result in
     let made : c.args.number ∷ get_or f 0 0 ∷ get_or f 1 0 ∷ get_or s 0 0 ∷ get_or s 1 0 ∷ [] ≡ bytes_of (refused c.args.number c.args.first c.args.second) = search rules in
     record {
       value = search rules;

@@ -9,9 +9,9 @@ pub returns : goal.returns
 unfolding line_of
 returns c =
     let xs = c.args.stops.now in
-    let w = c.write-list in
+    let w = c.write_list in
     record {
       value = w.ensures.value;
       after = w.ensures.after;
-      back = λ n h. ap (understood judging) (w.ensures.back n h) ∙ ring_back xs (few (length xs) _ n (sym w.ensures.value ∙ h)) (All-from_get_or (λ x. x < 2 ^ 16) xs 0 (λ i _. omega (arith, c.type-inv.stops i)));
+      back = λ n h. ap (understood judging) (w.ensures.back n h) ∙ ring_back xs (few (length xs) _ n (sym w.ensures.value ∙ h)) (All-from_get_or (λ x. x < 2 ^ 16) xs 0 (λ i _. omega (arith, c.type_inv.stops i)));
     }
