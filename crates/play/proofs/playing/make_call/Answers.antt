@@ -31,7 +31,7 @@ returns-in-StrikePrecedence g c =
     let call = strike_precedence c.in-StrikePrecedence.first c.in-StrikePrecedence.second c.in-StrikePrecedence.place in
     rw c.in-StrikePrecedence.is (entered call did.result, entered_event call did.result c.entered-in-StrikePrecedence.result c.entered-in-StrikePrecedence.ensures, (did.ensures.answers, did.ensures.leaves))
 
-pub returns-in-ok-judge-sheet : goal.returns-in-ok-judge-sheet
-returns-in-ok-judge-sheet g c =
+pub returns-in_ok-judge_sheet-in-Judge : goal.returns-in_ok-judge_sheet-in-Judge
+returns-in_ok-judge_sheet-in-Judge g c =
     let y : Setting = record { lanes = g.Y.Yard.lanes c.in-Judge.yard; gap = g.R.FollowingRule.gaps c.in-Judge.rule; largest = g.R.FollowingRule.largest } in
-    rw c.in-Judge.is (judged y 1024 (Some (finding_of c.in-ok-judge-sheet.field-0)), refl, ((few_stops c.args.sheet.now, c.in-ok-judge-sheet.ensures), refl))
+    rw c.in-Judge.is (judged y 1024 (Some (finding_of c.in_ok-judge_sheet-in-Judge.field-0)), refl, ((few_stops c.args.sheet.now, c.in_ok-judge_sheet-in-Judge.ensures), refl))

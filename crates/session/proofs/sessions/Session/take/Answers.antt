@@ -56,7 +56,7 @@ returns-in-Strike c =
 pub returns-in-Judge : goal.returns-in-Judge
 returns-in-Judge c =
     let own = c.args.self.now in
-    let did = c.judge-under in
+    let did = c.judge_under in
     record {
       replied = judged_under (lanes_in own) (book_in own) (book_in did.new.self) c.args.entry own.timetable own.ring c.in-Judge.rule _ c.in-Judge.is did.ensures.replied (ap sheet_book did.ensures.same.0);
       same = search rules;

@@ -6,7 +6,7 @@ pub returns-then-len-lt8193 : goal.returns-then-len-lt8193
 returns-then-len-lt8193 c =
     let own = c.args.self.now in
     let long = own.lanes.ok.0 in
-    record { lanes = c.push-reserved.ensures.items ∙ kept_more (vec_items own.lanes) c.args.lane (omega arith); others = search rules }
+    record { lanes = c.push_reserved.ensures.items ∙ kept_more (vec_items own.lanes) c.args.lane (omega arith); others = search rules }
 
 pub returns-else-len-lt8193 : goal.returns-else-len-lt8193
 returns-else-len-lt8193 c =

@@ -5,7 +5,7 @@ use Rattle.yard_file.proofs.files.YardFile.push.Goals as goal
 
 pub returns-then-byte-eq10 : goal.returns-then-byte-eq10
 returns-then-byte-eq10 c bytes r =
-    let more = c.end-line.ensures r.ended r.begun r.kept r.line in
+    let more = c.end_line.ensures r.ended r.begun r.kept r.line in
     rw c.if-byte-eq10.true (record { ended = r.ended ++ r.begun ∷ []; begun = []; split = split_end bytes r.ended r.begun r.split; kept = more.0; line = more.1 })
 
 pub returns-else-byte-eq10 : goal.returns-else-byte-eq10

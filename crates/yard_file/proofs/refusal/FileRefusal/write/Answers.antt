@@ -10,11 +10,11 @@ returns c =
     let page = c.args.page.now in
     let why = c.args.self.now in
     let reply = refused (number_of why) (told_by why) 0 in
-    let value : c.write-refused.result ≡ writing page 0 reply = search rules in
+    let value : c.write_refused.result ≡ writing page 0 reply = search rules in
     let short = reply_size reply in
     record {
       value = value;
       after = search rules;
-      room = λ h. reply_room page 0 c.write-refused.result reply (omega arith) value (omega arith);
-      within = IfOk-weaker c.write-refused.result _ (λ n. n ≤ length page) (λ n h. omega arith) (reply_within page 0 c.write-refused.result reply (omega arith) value);
+      room = λ h. reply_room page 0 c.write_refused.result reply (omega arith) value (omega arith);
+      within = IfOk-weaker c.write_refused.result _ (λ n. n ≤ length page) (λ n h. omega arith) (reply_within page 0 c.write_refused.result reply (omega arith) value);
     }
