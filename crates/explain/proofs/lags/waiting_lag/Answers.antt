@@ -3,7 +3,7 @@ use Rattle.explain.proofs.lags.waiting_lag.Goals as goal
 
 pub returns : goal.returns
 returns c = record {
-  k = c.in-ok-find.field-0;
+  k = c.in_ok-find.field-0;
   stands = search rules;
   first_is = search rules;
   second_is = search rules;
