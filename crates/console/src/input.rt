@@ -1,5 +1,5 @@
 // Taking an input line by line.
-use input::buffer::LineBuffer;
+use lines::buffer::LineBuffer;
 use std::io;
 use std::io::{Read, Write};
 

@@ -20,9 +20,10 @@ use Rattle.plan.specs.Theorems.{Orderly, Positive, FromZero}
 use Rattle.plan.proofs.Heart.{decide_in}
 use Rattle.judge.specs.declared.refusal.JudgeRefusal.{JudgeRefusal}
 use Rattle.judge.specs.declared.refusal.JudgeRefusal.TheVariants.{PageTooShort, NotAtGoal, NoLane, Undecided, HeadOn, Ring}
-use Rattle.judge.specs.Findings.{Setting, Finding, not_at_goal, no_lane, undecided, head_on, in_a_ring, passes, Finds, Away, CutOff, UndecidedAt, Impossible}
-use Rattle.judge.specs.Histories.{Goes_on}
-use Rattle.judge.specs.Judged.{Judging, Concludes, Shows, Judged, PassesExactly, room_of}
+use Rattle.judge.specs.Findings.{Setting, Finding, not_at_goal, no_lane, undecided, head_on, in_a_ring, passes, Finds, Impossible}
+use Rattle.judge.specs.FindingHistories.{GoesOn}
+use Rattle.judge.specs.Judged.{Judging, Away, CutOff, UndecidedAt, PassesExactly}
+use Rattle.judge.specs.Shown.{Concludes, Shows, Concluded, room_of, setting_in}
 use Rattle.judge.specs.Legs.{Legs, Previous, NoLaneTo, ShortOfGoal}
 use Rattle.judge.specs.Lowest.{Lowest, LowestPair}
 use Rattle.judge.specs.Meetings.{Leads, OpenMeeting, LowestOpposed}
@@ -221,7 +222,7 @@ module _ (sheet : Sheet) (lanes : Lanes) (gap : Gaps) (largest : ℕ) (limited :
   -- what is answered
   module _ (p : Pages) where
     abbrev pub judging : Result ℕ JudgeRefusal → Judging
-    judging r = record { setting = y; pages = p; answer = r }
+    judging r = record { lanes = lanes; gap = gap; largest = largest; pages = p; answer = r }
 
     abbrev Fits : Type 0
     Fits = (length ss ≤ length p.timetable) × (length ss ≤ length p.ring)
@@ -230,7 +231,7 @@ module _ (sheet : Sheet) (lanes : Lanes) (gap : Gaps) (largest : ℕ) (limited :
     long : Fits → length b.stops ≤ room_of p
     long f = rw stops_long (le-min f.0 f.1)
 
-    pub judged_short : (Fits → ⊥) → Untouched p → Judged (judging (Err PageTooShort)) b
+    pub judged_short : (Fits → ⊥) → Untouched p → Concluded (judging (Err PageTooShort)) b
     judged_short no_fit u = record {
       found = None;
       concludes = lt_of_not-le (λ l. no_fit (let e = stops_long in let left = min-le_left (length p.timetable) (length p.ring) in let right = min-le_right (length p.timetable) (length p.ring) in (omega arith, omega arith)));
@@ -239,13 +240,13 @@ module _ (sheet : Sheet) (lanes : Lanes) (gap : Gaps) (largest : ℕ) (limited :
 
     module _ (f : Fits) where
       -- a finding that the answer and the pages show
-      conclude : (r : Result ℕ JudgeRefusal) (finding : Finding) → Finds y b finding → Shows p r (Some finding) → Judged (judging r) b
+      conclude : (r : Result ℕ JudgeRefusal) (finding : Finding) → Finds y b finding → Shows p r (Some finding) → Concluded (judging r) b
       conclude r finding finds shown = record { found = Some finding; concludes = (long f, finds); shown = shown }
 
-      pub judged_away : (c : ℕ) → Lowest (ShortOfGoal (vec_items sheet.tables.carriers)) c → Untouched p → Judged (judging (Err (NotAtGoal c))) b
+      pub judged_away : (c : ℕ) → Lowest (ShortOfGoal (vec_items sheet.tables.carriers)) c → Untouched p → Concluded (judging (Err (NotAtGoal c))) b
       judged_away c l u = conclude (Err (NotAtGoal c)) (not_at_goal c) (found_away c l) (refl, u)
 
-      pub judged_routed : ((c : ℕ) → ShortOfGoal (vec_items sheet.tables.carriers) c → ⊥) → (r : Result ℕ JudgeRefusal) → Routed lanes gap (max 36000 largest) ss ps p r → Judged (judging r) b
+      pub judged_routed : ((c : ℕ) → ShortOfGoal (vec_items sheet.tables.carriers) c → ⊥) → (r : Result ℕ JudgeRefusal) → Routed lanes gap (max 36000 largest) ss ps p r → Concluded (judging r) b
       judged_routed home (Ok n) w =
           let t = w.settles.1 in
           conclude (Ok n) (passes t.times) (passing p home n w) (ap Ok (w.settles.0 ∙ sym t.one_each), t.written, t.ring_stands)
@@ -259,7 +260,7 @@ module _ (sheet : Sheet) (lanes : Lanes) (gap : Gaps) (largest : ℕ) (limited :
           conclude (Err (Ring k)) (in_a_ring r.stops) (circular p home k w) (ap (λ n. Err (Ring n)) (sym r.long), r.written, r.timetable_stands)
 
 -- a finding, beside a complete sheet: it passes, and then some plan is good, or no plan is
-passes_or_not : (j : Judging) (b : Book) → Complete j.setting.lanes b → (f : Finding) → Finds j.setting b f → Shows j.pages j.answer (Some f) → ((is_ok j.answer ≡ true) × Possible j.setting.lanes j.setting.gap b) ⊎ ((is_ok j.answer ≡ false) × Impossible j.setting b)
+passes_or_not : (j : Judging) (b : Book) → Complete j.lanes b → (f : Finding) → Finds (setting_in j) b f → Shows j.pages j.answer (Some f) → ((is_ok j.answer ≡ true) × Possible j.lanes j.gap b) ⊎ ((is_ok j.answer ≡ false) × Impossible (setting_in j) b)
 passes_or_not j b c (not_at_goal k) f shown = let a = f.0 in absurd (a.not_reached (c.home k a.goal a.its_goal))
 passes_or_not j b c (no_lane t) f shown = let o = f.1.0 in let d = c.on_lanes o.c o.s o.u t o.v o.step in absurd (not_some d.0 (sym d.1 ∙ o.no_lane))
 passes_or_not j b c (undecided s t) f shown = let o = f.2.0 in absurd (o.nobody_first (c.decided o.c o.e s t o.u o.other o.here o.there))
@@ -268,11 +269,11 @@ passes_or_not j b c (in_a_ring stops) f shown = inr (ap is_ok shown.0, f.3)
 passes_or_not j b c (passes times) f shown = inl (ap is_ok shown.0, ((λ s. get_or times s 0), f.1.earliest.good))
 
 -- an answer that is so passes exactly the sheets that some plan keeps
-pub exactly : (j : Judging) (b : Book) → Judged j b → PassesExactly j b
+pub exactly : (j : Judging) (b : Book) → Concluded j b → PassesExactly j b
 exactly j b judged = go judged.found judged.concludes judged.shown
   where
-    go : (IfSome : Option Finding) → Concludes j.setting b (room_of j.pages) IfSome → Shows j.pages j.answer IfSome → PassesExactly j b
-    go None short shown = λ l c. absurd (omega arith)
+    go : (found : Option Finding) → Concludes (setting_in j) b (room_of j.pages) found → Shows j.pages j.answer found → PassesExactly j b
+    go None short shown = λ fit c. let l = le-min fit.0 fit.1 in absurd (omega arith)
     go (Some f) (l, finds) shown = λ _ c.
         ⊎_elim
         (λ (ok, possible). (λ _. possible, λ _. ok))
@@ -280,5 +281,5 @@ exactly j b judged = go judged.found judged.concludes judged.shown
         (passes_or_not j b c f finds shown)
 
 -- what is found goes on from every history
-pub goes_on : (j : Judging) (b : Book) → Judged j b → Goes_on j b
+pub goes_on : (j : Judging) (b : Book) → Concluded j b → GoesOn j b
 goes_on j b judged = record { found = judged.found; shown = judged.shown; lawful = λ h l. (b, l, (judged.concludes, refl)) }

@@ -11,3 +11,4 @@ pub mod Routings
 pub mod Meant
 pub mod Judgements
 pub mod Shown
+pub mod InFull

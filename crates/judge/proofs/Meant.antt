@@ -15,7 +15,7 @@ use Rattle.sheet.specs.Tables.{StopsInside}
 use Rattle.sheet.proofs.Facts as facts
 use Rattle.plan.specs.Lags.{Lag, travel, wait}
 use Rattle.plan.specs.Plans.{Lanes, Gaps, Leg, Complete, Opposed}
-use Rattle.judge.specs.Findings.{Away, CutOff, UndecidedAt}
+use Rattle.judge.specs.Judged.{Away, CutOff, UndecidedAt}
 use Rattle.judge.specs.Legs.{Legs, Previous, lane_between, ShortOfGoal}
 use Rattle.judge.specs.Meetings.{Leads, leads_at, OpenMeeting, OpposedBy, OpposedBelow}
 use Rattle.judge.specs.Waits.{Travel, Waiting, LagOf, Between}

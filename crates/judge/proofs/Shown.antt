@@ -4,7 +4,8 @@ use Rattle.std.proofs.lemmas.List.{take_at}
 use Rattle.sheet.specs.Book.{Book}
 use Rattle.judge.specs.declared.refusal.JudgeRefusal.{JudgeRefusal}
 use Rattle.judge.specs.Findings.{Setting, Finding, not_at_goal, no_lane, undecided, head_on, in_a_ring, passes, Finds}
-use Rattle.judge.specs.Judged.{Judging, Judged, Concludes, Shows, room_of, shown_by}
+use Rattle.judge.specs.Judged.{Judging}
+use Rattle.judge.specs.Shown.{Concluded, Concludes, Shows, room_of, setting_in, shown_by}
 use Rattle.judge.specs.Settling.{Pages, Front}
 
 -- the numbers at the front of a page
@@ -21,5 +22,5 @@ shows_only p r (Some (in_a_ring stops)) shown = ap (shown_by p.timetable_after p
 shows_only p r (Some (passes times)) shown = ap (shown_by p.timetable_after p.ring_after) shown.0 ∙ ap (λ (l : List ℕ). Some (passes l)) (front_taken p.timetable times p.timetable_after shown.1)
 
 -- and it is what the judging concludes
-pub concludes_shown : (j : Judging) (b : Book) (room : ℕ) → room_of j.pages ≡ room → Judged j b → Concludes j.setting b room (shown_by j.pages.timetable_after j.pages.ring_after j.answer)
+pub concludes_shown : (j : Judging) (b : Book) (room : ℕ) → room_of j.pages ≡ room → Concluded j b → Concludes (setting_in j) b room (shown_by j.pages.timetable_after j.pages.ring_after j.answer)
 concludes_shown j b room e judged = rw (shows_only j.pages j.answer judged.found judged.shown, ← e) judged.concludes

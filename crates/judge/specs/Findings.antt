@@ -1,9 +1,10 @@
 -- What a judging finds, in the words of the subject.
-use Rattle.std.specs.Prelude.{◌≡◌, ℕ, ◌-◌, ◌*◌, ◌<◌, ◌≤◌, max, ◌≢◌, List, length, None, slice_index}
+use Rattle.std.specs.Prelude.{◌≡◌, ℕ, ◌-◌, ◌*◌, ◌≤◌, max, List, length, slice_index}
 use Rattle.lags.specs.Ways.{Ring}
-use Rattle.sheet.specs.Book.{Book, GoalOf, OnRoute, Visits, Decided, Next}
+use Rattle.sheet.specs.Book.{Book}
 use Rattle.plan.specs.Lags.{Lag}
 use Rattle.plan.specs.Plans.{Lanes, Gaps, Earliest, Possible, Complete, Opposed}
+use Rattle.judge.specs.Judged.{Away, CutOff, UndecidedAt}
 use Rattle.judge.specs.Lowest.{Lowest, LowestPair}
 
 -- where and how a sheet is judged: the yard's meaning, the rule's, and the largest gap that the rule names
@@ -25,32 +26,6 @@ pub data Finding : Type 0 where
   in_a_ring : List ℕ → Finding
   -- the sheet passes, with these arrivals by stop number
   passes : List ℕ → Finding
-
--- the carrier's route has not reached its goal
-pub record Away (b : Book) (c : ℕ) : Type 0 where
-  pub goal : ℕ
-  pub its_goal : GoalOf b c goal
-  pub not_reached : OnRoute b c goal → ⊥
-
--- no lane leads to the stop from the one before it
-pub record CutOff (lanes : Lanes) (b : Book) (t : ℕ) : Type 0 where
-  pub c : ℕ
-  pub s : ℕ
-  pub u : ℕ
-  pub v : ℕ
-  pub step : Next b c s u t v
-  pub no_lane : lanes u v ≡ None
-
--- two carriers stop at one place, and no precedence says who goes first
-pub record UndecidedAt (b : Book) (s t : ℕ) : Type 0 where
-  pub c : ℕ
-  pub e : ℕ
-  pub u : ℕ
-  pub other : c ≢ e
-  pub here : Visits b s c u
-  pub there : Visits b t e u
-  pub later : s < t
-  pub nobody_first : Decided b c e u → ⊥
 
 module _ (y : Setting) (b : Book) where
   abbrev pub AllHome : Type 0

@@ -1,30 +1,20 @@
 -- Whole histories of a sheet: entries, strikings and judgings, from the opening on.
-use Rattle.std.specs.Prelude.{◌≡◌, ℕ, Option}
+use Rattle.std.specs.Prelude.{◌≡◌}
 use Rattle.sheet.specs.Book.{Book}
 use Rattle.sheet.specs.Calls.{Call, Answer}
-use Rattle.sheet.specs.Histories.{History, ◌▹◌, Leads, Enters}
-use Rattle.judge.specs.Findings.{Setting, Finding}
-use Rattle.judge.specs.Judged.{Judging, Concludes, Shows, room_of}
+use Rattle.sheet.specs.Histories.{History, Leads, Enters}
+use Rattle.judge.specs.Judged.{Judging, Judged}
 
--- what may happen to a sheet
+-- what may happen to a sheet: a call with its answer, or a judging, each with a yard and a rule of its own
 pub data Event : Type 0 where
-  -- a call with its answer
   entered : Call → Answer → Event
-  -- a judging in a yard and under a rule of its own, with room for so many numbers on each page, and what it finds
-  judged : Setting → (room : ℕ) → Option Finding → Event
+  judged : Judging → Event
 
--- an entry or a striking has the book's answer and leaves what the book leaves; a judging finds what it should, and
--- leaves the book as it is
+-- an entry or a striking has the book's answer and leaves what the book leaves; a judging is as it should be, and leaves the book as it is
 abbrev pub Happens : Book → Event → Book → Type 0
 Happens b (entered call answer) b' = Enters b (call, answer) b'
-Happens b (judged y room found) b' = Concludes y b room found × (b' ≡ b)
+Happens b (judged j) b' = Judged j b × (b' ≡ b)
 
 -- every event in the history is lawful, and they left this book
 abbrev pub Lawful : History Event → Book → Type 0
 Lawful h b = Leads Happens h b
-
--- what the answer and the pages show, every history that led lawfully to the book goes on with
-pub record Goes_on (j : Judging) (b : Book) : Type 0 where
-  pub found : Option Finding
-  pub shown : Shows j.pages j.answer found
-  pub lawful : (h : History Event) → Lawful h b → Lawful (h ▹ judged j.setting (room_of j.pages) found) b

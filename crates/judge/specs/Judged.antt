@@ -1,64 +1,102 @@
--- What a judging answers, and what it leaves on its pages.
-use Rattle.std.specs.Prelude.{◌≡◌, ℕ, ◌<◌, ◌≤◌, min, true, List, length, take, is_ok, Some, None, Ok, Err, Option, Result}
-use Rattle.sheet.specs.Book.{Book}
-use Rattle.plan.specs.Plans.{Lanes, Gaps, Possible, Complete}
+-- What a judging answers, in the words of the subject.
+use Rattle.std.specs.Prelude.{◌≡◌, ℕ, ◌-◌, ◌*◌, ◌<◌, ◌≤◌, max, true, ◌≢◌, ◌⊎◌, List, length, is_ok, None, Ok, Err, Result, slice_index}
+use Rattle.lags.specs.Ways.{Ring as RingOf}
+use Rattle.sheet.specs.Book.{Book, GoalOf, OnRoute, Visits, Decided, Next}
+use Rattle.plan.specs.Lags.{Lag}
+use Rattle.plan.specs.Plans.{Lanes, Gaps, Earliest, Possible, Complete, Opposed}
 use Rattle.judge.specs.declared.refusal.JudgeRefusal.{JudgeRefusal}
 use Rattle.judge.specs.declared.refusal.JudgeRefusal.TheVariants.{PageTooShort, NotAtGoal, NoLane, Undecided, HeadOn, Ring}
-use Rattle.judge.specs.Findings.{Setting, Finding, not_at_goal, no_lane, undecided, head_on, in_a_ring, passes, Finds}
+use Rattle.judge.specs.Lowest.{Lowest, LowestPair}
 use Rattle.judge.specs.Settling.{Pages, Front}
 use Rattle.judge.specs.Routing.{Untouched}
 
--- a judging with room for so many numbers on each page: it finds something exactly when each stop has a number there
-abbrev pub Concludes : Setting → Book → (room : ℕ) → Option Finding → Type 0
-Concludes y b room None = room < length b.stops
-Concludes y b room (Some finding) = (length b.stops ≤ room) × Finds y b finding
-
 -- what a judging is given, what it leaves on the pages and what it answers
 pub record Judging : Type 0 where
-  pub setting : Setting
+  -- the yard's meaning, the rule's, and the largest gap that the rule names
+  pub lanes : Lanes
+  pub gap : Gaps
+  pub largest : ℕ
   pub pages : Pages
   pub answer : Result ℕ JudgeRefusal
 
 abbrev pub judging_of : Lanes → Gaps → ℕ → List ℕ → List ℕ → List ℕ → List ℕ → Result ℕ JudgeRefusal → Judging
 judging_of lanes gap largest timetable ring timetable' ring' r = record {
-  setting = record { lanes = lanes; gap = gap; largest = largest };
+  lanes = lanes;
+  gap = gap;
+  largest = largest;
   pages = record { timetable = timetable; ring = ring; timetable_after = timetable'; ring_after = ring' };
   answer = r;
 }
 
--- how many numbers both pages have
-abbrev pub room_of : Pages → ℕ
-room_of p = min (length p.timetable) (length p.ring)
+-- the carrier's route has not reached its goal
+pub record Away (b : Book) (c : ℕ) : Type 0 where
+  pub goal : ℕ
+  pub its_goal : GoalOf b c goal
+  pub not_reached : OnRoute b c goal → ⊥
 
--- the answer and the pages show what was found; everything else on the pages stands
-abbrev pub Shows : Pages → Result ℕ JudgeRefusal → Option Finding → Type 0
-Shows p r None = (r ≡ Err PageTooShort) × Untouched p
-Shows p r (Some (not_at_goal c)) = (r ≡ Err (NotAtGoal c)) × Untouched p
-Shows p r (Some (no_lane t)) = (r ≡ Err (NoLane t)) × Untouched p
-Shows p r (Some (undecided s t)) = (r ≡ Err (Undecided s t)) × Untouched p
-Shows p r (Some (head_on s t)) = (r ≡ Err (HeadOn s t)) × Untouched p
-Shows p r (Some (in_a_ring stops)) = (r ≡ Err (Ring (length stops))) × Front p.ring stops p.ring_after × (p.timetable_after ≡ p.timetable)
-Shows p r (Some (passes times)) = (r ≡ Ok (length times)) × Front p.timetable times p.timetable_after × (p.ring_after ≡ p.ring)
+-- no lane leads to the stop from the one before it
+pub record CutOff (lanes : Lanes) (b : Book) (t : ℕ) : Type 0 where
+  pub c : ℕ
+  pub s : ℕ
+  pub u : ℕ
+  pub v : ℕ
+  pub step : Next b c s u t v
+  pub no_lane : lanes u v ≡ None
 
--- what is shown by the timetable, the ring page and the answer that a judging leaves
-abbrev pub shown_by : List ℕ → List ℕ → Result ℕ JudgeRefusal → Option Finding
-shown_by timetable page (Ok n) = Some (passes (take n timetable))
-shown_by timetable page (Err PageTooShort) = None
-shown_by timetable page (Err (NotAtGoal c)) = Some (not_at_goal c)
-shown_by timetable page (Err (NoLane t)) = Some (no_lane t)
-shown_by timetable page (Err (Undecided s t)) = Some (undecided s t)
-shown_by timetable page (Err (HeadOn s t)) = Some (head_on s t)
-shown_by timetable page (Err (Ring k)) = Some (in_a_ring (take k page))
+-- two carriers stop at one place, and no precedence says who goes first
+pub record UndecidedAt (b : Book) (s t : ℕ) : Type 0 where
+  pub c : ℕ
+  pub e : ℕ
+  pub u : ℕ
+  pub other : c ≢ e
+  pub here : Visits b s c u
+  pub there : Visits b t e u
+  pub later : s < t
+  pub nobody_first : Decided b c e u → ⊥
 
-pub record Judged (j : Judging) (b : Book) : Type 0 where
-  pub found : Option Finding
-  pub concludes : Concludes j.setting b (room_of j.pages) found
-  pub shown : Shows j.pages j.answer found
+module _ (j : Judging) (b : Book) where
+  -- both pages have a number for each stop
+  abbrev pub Long : Type 0
+  Long = (length b.stops ≤ length j.pages.timetable) × (length b.stops ≤ length j.pages.ring)
 
--- with pages long enough, a complete sheet passes exactly when some timed plan keeps every standing precedence and is
--- free of conflict
-abbrev pub PassesExactly : Judging → Book → Type 0
-PassesExactly j b =
-    length b.stops ≤ room_of j.pages
-    → Complete j.setting.lanes b
-    → (is_ok j.answer ≡ true → Possible j.setting.lanes j.setting.gap b) × (Possible j.setting.lanes j.setting.gap b → is_ok j.answer ≡ true)
+  abbrev pub AllHome : Type 0
+  AllHome = (c : ℕ) → Away b c → ⊥
+
+  abbrev pub AllOnLanes : Type 0
+  AllOnLanes = (t : ℕ) → CutOff j.lanes b t → ⊥
+
+  -- the first numbers of the timetable are the earliest arrivals, and everything else on the pages stands
+  pub record Passes (n : ℕ) : Type 0 where
+    pub all_stops : n ≡ length b.stops
+    pub times : List ℕ
+    pub one_each : length times ≡ length b.stops
+    pub written : Front j.pages.timetable times j.pages.timetable_after
+    pub earliest : Earliest j.lanes j.gap b (λ s. slice_index times s)
+    pub ceiling : (s : ℕ) → slice_index times s ≤ (length b.stops - 1) * max 36000 j.largest
+    pub ring_stands : j.pages.ring_after ≡ j.pages.ring
+
+  -- the first k numbers of the ring page are a ring of the sheet's lags, and everything else on the pages stands
+  pub record WaitsInARing (k : ℕ) : Type 0 where
+    pub stops : List ℕ
+    pub long : length stops ≡ k
+    pub ring : RingOf (Lag j.lanes j.gap b) stops
+    pub written : Front j.pages.ring stops j.pages.ring_after
+    pub timetable_stands : j.pages.timetable_after ≡ j.pages.timetable
+
+  -- the checks in their order, each with the lowest numbers to which it applies
+  abbrev pub Answers : Result ℕ JudgeRefusal → Type 0
+  Answers (Err PageTooShort) = (Long → ⊥) × Untouched j.pages
+  Answers (Err (NotAtGoal c)) = Long × Lowest (Away b) c × Untouched j.pages
+  Answers (Err (NoLane t)) = Long × AllHome × Lowest (CutOff j.lanes b) t × Untouched j.pages
+  Answers (Err (Undecided s t)) = Long × AllHome × AllOnLanes × LowestPair (UndecidedAt b) s t × Untouched j.pages
+  Answers (Err (HeadOn s t)) = Long × Complete j.lanes b × LowestPair (Opposed j.lanes b) s t × (Possible j.lanes j.gap b → ⊥) × Untouched j.pages
+  Answers (Err (Ring k)) = Long × Complete j.lanes b × ((s t : ℕ) → Opposed j.lanes b s t → ⊥) × (Possible j.lanes j.gap b → ⊥) × WaitsInARing k
+  Answers (Ok n) = Long × Complete j.lanes b × Possible j.lanes j.gap b × Passes n
+
+  abbrev pub Judged : Type 0
+  Judged = Answers j.answer
+
+  -- with pages long enough, a complete sheet passes exactly when some timed plan keeps every standing precedence and is
+  -- free of conflict
+  abbrev pub PassesExactly : Type 0
+  PassesExactly = Long → Complete j.lanes b → (is_ok j.answer ≡ true → Possible j.lanes j.gap b) × (Possible j.lanes j.gap b → is_ok j.answer ≡ true)

@@ -6,6 +6,8 @@ pub mod Meetings
 pub mod Waits
 pub mod Settling
 pub mod Routing
-pub mod Findings
 pub mod Judged
 pub mod Histories
+pub mod Findings
+pub mod Shown
+pub mod FindingHistories

@@ -2,8 +2,13 @@
 ghost use Rattle.std.specs.Prelude.{◌≡◌, ℕ, ◌^◌, ◌<◌, ◌≤◌, max, ◌++◌, length, drop, MatchResult, slice_index};
 ghost use Rattle.judge.specs.Legs.{NextsInside};
 ghost use Rattle.judge.specs.Routing.{PrecedencesClear, PrecedencesRefused, Routed};
-ghost use Rattle.judge.specs.Histories.{Goes_on};
+ghost use Rattle.judge.specs.FindingHistories.{GoesOn};
+ghost use Rattle.judge.specs.Histories.{Event, Lawful};
+ghost use Rattle.judge.specs.Histories.Event.{judged};
 ghost use Rattle.judge.specs.Judged.{Judged, PassesExactly, judging_of};
+ghost use Rattle.judge.specs.Shown.{Concluded};
+ghost use Rattle.sheet.specs.Histories.{History};
+ghost use Rattle.sheet.specs.Histories.History.{◌▹◌};
 ghost use Rattle.sheet.specs.Sheets.{sheet_book};
 ghost use Rattle.judge.specs.Settling.{Settles, Within};
 ghost use Rattle.judge.specs.Waits.{Between, Consistent, Ready};
@@ -111,7 +116,9 @@ pub fn judge<Y: Yard, R: FollowingRule>(
 ) -> Result<u16, JudgeRefusal>
     ensures judges { Judged (judging_of (Y.Yard.lanes yard.now) (R.FollowingRule.gaps rule.now) R.FollowingRule.largest timetable.old ring.old timetable.new ring.new result) (sheet_book sheet.now) }
     ensures exactly { PassesExactly (judging_of (Y.Yard.lanes yard.now) (R.FollowingRule.gaps rule.now) R.FollowingRule.largest timetable.old ring.old timetable.new ring.new result) (sheet_book sheet.now) }
-    ensures goes_on { Goes_on (judging_of (Y.Yard.lanes yard.now) (R.FollowingRule.gaps rule.now) R.FollowingRule.largest timetable.old ring.old timetable.new ring.new result) (sheet_book sheet.now) }
+    ensures goes_on { (h : History Event) → Lawful h (sheet_book sheet.now) → Lawful (h ▹ judged (judging_of (Y.Yard.lanes yard.now) (R.FollowingRule.gaps rule.now) R.FollowingRule.largest timetable.old ring.old timetable.new ring.new result)) (sheet_book sheet.now) }
+    ensures concludes { Concluded (judging_of (Y.Yard.lanes yard.now) (R.FollowingRule.gaps rule.now) R.FollowingRule.largest timetable.old ring.old timetable.new ring.new result) (sheet_book sheet.now) }
+    ensures continues { GoesOn (judging_of (Y.Yard.lanes yard.now) (R.FollowingRule.gaps rule.now) R.FollowingRule.largest timetable.old ring.old timetable.new ring.new result) (sheet_book sheet.now) }
     ensures within { Within (length timetable.old) (length ring.old) result }
 {
     let stops = sheet.stops();

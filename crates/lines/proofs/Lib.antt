@@ -4,3 +4,4 @@ pub mod Placing
 pub mod Readings
 pub mod RoundTrip
 pub mod Writes
+pub mod Takes

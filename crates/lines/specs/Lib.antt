@@ -1,3 +1,4 @@
+pub mod Buffers
 pub mod Digits
 pub mod Entries
 pub mod Pages

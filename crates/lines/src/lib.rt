@@ -1,6 +1,7 @@
 // Lines of hexadecimal digits: read into entries, and written from them into a page.
 #![tactic(auto)]
 
+pub mod buffer;
 mod digits;
 pub mod entry;
 pub mod page;

@@ -1,6 +1,6 @@
 // The line buffer: the first 65 bytes of a line are kept.
 use crate::reading::check_read;
-use input::buffer::LineBuffer;
+use lines::buffer::LineBuffer;
 use lines::entry::Input;
 use lines::refusal::LineRefusal;
 use std::process::Abort;

@@ -1,7 +1,7 @@
 -- What is kept of a file that has been read so far.
 use Rattle.std.specs.Prelude.{◌≡◌, ℕ, List, take, vec_items}
-use Rattle.input.specs.Buffers.{Keeps}
-use Rattle.input.specs.Splits.{Split}
+use Rattle.lines.specs.Buffers.{Keeps}
+use Rattle.yard_file.specs.Splits.{Split}
 use Rattle.yard_file.specs.Laying.{first_refusal, lanes_said}
 use Rattle.yard_file.specs.declared.files.YardFile.{YardFile}
 

@@ -1,3 +1,5 @@
+pub mod Lines
+pub mod Splits
 pub mod Refusals
 pub mod Laying
 pub mod Files

@@ -1,7 +1,7 @@
 // What has been read of the file of a yard.
 ghost use Rattle.std.specs.Prelude.{◌≤◌, vec_len, vec_capacity};
 
-use input::buffer::LineBuffer;
+use lines::buffer::LineBuffer;
 use lane_yard::lane::Lane;
 use lines::refusal::LineRefusal;
 

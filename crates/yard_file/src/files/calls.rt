@@ -1,13 +1,13 @@
 // Reading the file of a yard, and laying its lanes.
 ghost use Rattle.std.specs.Prelude.{◌≡◌, ℕ, List, [], ◌∷◌, ◌++◌, take, IfOk, Ok, Err};
-ghost use Rattle.input.specs.Buffers.{Keeps};
-ghost use Rattle.input.specs.Lines.{lines_of};
+ghost use Rattle.lines.specs.Buffers.{Keeps};
+ghost use Rattle.yard_file.specs.Lines.{lines_of};
 ghost use Rattle.yard_file.specs.Files.{Ended, HasRead};
 ghost use Rattle.yard_file.specs.Laying.{FileLaid, earlier, lane_said};
 
 use crate::files::YardFile;
 use crate::refusal::FileRefusal;
-use input::buffer::LineBuffer;
+use lines::buffer::LineBuffer;
 use lane_yard::lane::Lane;
 use lane_yard::yards::LaneYard;
 use lines::entry::{Entry, Input};

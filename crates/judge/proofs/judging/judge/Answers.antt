@@ -7,6 +7,7 @@ use Rattle.judge.specs.Judged.{judging_of}
 use Rattle.judge.specs.Legs.{ShortOfGoal}
 use Rattle.judge.specs.Routing.{Routed}
 use Rattle.judge.specs.Settling.{Pages}
+use Rattle.judge.proofs.InFull.{goes_on_in_full, judged_in_full}
 use Rattle.judge.proofs.Judgements.{judged_short, judged_away, judged_routed, exactly, goes_on}
 use Rattle.judge.proofs.Routings.{routed_same, routed_within}
 use Rattle.judge.proofs.Tabled.{consistent}
@@ -32,7 +33,15 @@ returns-then-timetable-stops g c =
     let long = ap length c.stops-stops.ensures in
     let J = judged_short own lanes gaps g.R.FollowingRule.largest (g.met.Y.Yard.limited _) pages
     (λ f. ⊎_elim (λ a. omega (arith, f.0)) (λ a. omega (arith, f.1, a.1)) c.then-timetable-stops.either) (refl, refl) in
-    record { judges = J; exactly = exactly (judging_of lanes gaps g.R.FollowingRule.largest c.args.timetable.now c.args.ring.now c.args.timetable.now c.args.ring.now (Err PageTooShort)) (sheet_book own) J; goes_on = goes_on (judging_of lanes gaps g.R.FollowingRule.largest c.args.timetable.now c.args.ring.now c.args.timetable.now c.args.ring.now (Err PageTooShort)) (sheet_book own) J; within = tt }
+    let j = judging_of lanes gaps g.R.FollowingRule.largest c.args.timetable.now c.args.ring.now c.args.timetable.now c.args.ring.now (Err PageTooShort) in
+    record {
+      judges = judged_in_full j (sheet_book own) J;
+      exactly = exactly j (sheet_book own) J;
+      goes_on = goes_on_in_full j (sheet_book own) J;
+      concludes = J;
+      continues = goes_on j (sheet_book own) J;
+      within = tt;
+    }
 
 pub returns-in_err-check_goals : goal.returns-in_err-check_goals
 returns-in_err-check_goals g c =
@@ -45,7 +54,15 @@ returns-in_err-check_goals g c =
     let low = subst (λ xs. Lowest (ShortOfGoal xs) away.0) c.carriers.ensures away.2 in
     let J = judged_away own lanes gaps g.R.FollowingRule.largest (g.met.Y.Yard.limited _) pages (omega arith, omega arith) away.0 low (refl, refl) in
     let p = err_from_is_err_and c.from_residual.result c.from_residual.ensures.1 in
-    rw (p.1, p.2, away.1) (record { judges = J; exactly = exactly (judging_of lanes gaps g.R.FollowingRule.largest c.args.timetable.now c.args.ring.now c.args.timetable.now c.args.ring.now (Err (NotAtGoal away.0))) (sheet_book own) J; goes_on = goes_on (judging_of lanes gaps g.R.FollowingRule.largest c.args.timetable.now c.args.ring.now c.args.timetable.now c.args.ring.now (Err (NotAtGoal away.0))) (sheet_book own) J; within = tt })
+    let j = judging_of lanes gaps g.R.FollowingRule.largest c.args.timetable.now c.args.ring.now c.args.timetable.now c.args.ring.now (Err (NotAtGoal away.0)) in
+    rw (p.1, p.2, away.1) (record {
+      judges = judged_in_full j (sheet_book own) J;
+      exactly = exactly j (sheet_book own) J;
+      goes_on = goes_on_in_full j (sheet_book own) J;
+      concludes = J;
+      continues = goes_on j (sheet_book own) J;
+      within = tt;
+    })
 
 pub returns : goal.returns
 returns g c =
@@ -64,8 +81,10 @@ returns g c =
     let j = judging_of lanes gaps largest c.args.timetable.now c.args.ring.now c.judge_routes.new.timetable c.judge_routes.new.ring c.judge_routes.result in
     let J = judged_routed own lanes gaps largest (g.met.Y.Yard.limited _) pages (omega arith, omega arith) home c.judge_routes.result routed in
     record {
-      judges = J;
+      judges = judged_in_full j (sheet_book own) J;
       exactly = exactly j (sheet_book own) J;
-      goes_on = goes_on j (sheet_book own) J;
+      goes_on = goes_on_in_full j (sheet_book own) J;
+      concludes = J;
+      continues = goes_on j (sheet_book own) J;
       within = routed_within lanes gaps (max 36000 largest) _ _ pages (omega arith) c.judge_routes.auto.ring c.judge_routes.result c.judge_routes.ensures;
     }

@@ -1,6 +1,6 @@
 -- What a line buffer keeps.
 use Rattle.std.specs.Prelude.{◌≡◌, ℕ, List, take}
-use Rattle.input.specs.declared.buffer.LineBuffer.{LineBuffer}
+use Rattle.lines.specs.declared.buffer.LineBuffer.{LineBuffer}
 
 -- the bytes that are kept
 abbrev pub kept : LineBuffer → List ℕ

@@ -1,7 +1,7 @@
 use Rattle.std.proofs.Common.{◌≡◌, ℕ, ◌+◌, ◌<◌, ◌≤◌, List, [], ◌∷◌, ◌++◌, length, take, set, sym, refl, ap, ◌∙◌, arith, rules}
 use Rattle.std.proofs.lemmas.List.{take_more_set, take_all, take-append-le, length_push, length-take-le}
-use Rattle.input.proofs.Takes.{take_front}
-use Rattle.input.proofs.buffer.LineBuffer.push.Goals as goal
+use Rattle.lines.proofs.Takes.{take_front}
+use Rattle.lines.proofs.buffer.LineBuffer.push.Goals as goal
 
 -- one more byte is kept while there is room
 more : (bytes : List ℕ) (count byte : ℕ) → count < 65 → length bytes ≡ 65 → take (count + 1) (set bytes count byte) ≡ take 65 (take count bytes ++ byte ∷ [])

@@ -3,8 +3,8 @@ use Rattle.std.proofs.Common.{◌≡◌, ℕ, true, false, cond, eqb, List, [], 
 use Rattle.std.specs.List.{AllByRecursion as All}
 use Rattle.std.proofs.lemmas.List.{append_assoc}
 use Rattle.std.proofs.lemmas.Bool.{ne_eqb}
-use Rattle.input.specs.Lines.{before_first, lines_of}
-use Rattle.input.specs.Splits.{NoNewline, Split, joined, last_line}
+use Rattle.yard_file.specs.Lines.{before_first, lines_of}
+use Rattle.yard_file.specs.Splits.{NoNewline, Split, joined, last_line}
 
 ended_line : (line rest : List ℕ) → NoNewline line → lines_of (line ++ 10 ∷ rest) ≡ line ∷ lines_of rest
 ended_line [] rest no_newline = refl

@@ -1,6 +1,6 @@
 // What a line buffer does.
 ghost use Rattle.std.specs.Prelude.{◌≡◌, ℕ, List, [], ◌∷◌, ◌++◌, length, take, nat_lt};
-ghost use Rattle.input.specs.Buffers.{kept, Keeps};
+ghost use Rattle.lines.specs.Buffers.{kept, Keeps};
 
 use crate::buffer::LineBuffer;
 

@@ -1,0 +1,57 @@
+-- What is concluded and shown, as the answer says it in full.
+use Rattle.std.proofs.Common.{◌≡◌, ℕ, ◌≤◌, length, get_or, Some, None, Ok, Err, Option, Result, refl, sym, subst, arith}
+use native.Mathlib.Nat.{le-min, min-le_left, min-le_right}
+use Rattle.sheet.specs.Book.{Book}
+use Rattle.sheet.specs.Histories.{History, ◌▹◌}
+use Rattle.judge.specs.declared.refusal.JudgeRefusal.{JudgeRefusal}
+use Rattle.judge.specs.declared.refusal.JudgeRefusal.TheVariants.{PageTooShort, NotAtGoal, NoLane, Undecided, HeadOn, Ring}
+use Rattle.judge.specs.Findings.{Finding, not_at_goal, no_lane, undecided, head_on, in_a_ring, passes, Finds}
+use Rattle.judge.specs.Histories.{Event, judged, Lawful}
+use Rattle.judge.specs.Judged.{Judging, Answers, Judged, Long}
+use Rattle.judge.specs.Shown.{Concluded, Concludes, Shows, room_of, setting_in}
+
+module _ (j : Judging) (b : Book) where
+  -- both pages have as many numbers as their room
+  long : length b.stops ≤ room_of j.pages → Long j b
+  long h =
+      let left = min-le_left (length j.pages.timetable) (length j.pages.ring) in
+      let right = min-le_right (length j.pages.timetable) (length j.pages.ring) in
+      (omega arith, omega arith)
+
+  answers : (finding : Finding) → length b.stops ≤ room_of j.pages → Finds (setting_in j) b finding → Shows j.pages j.answer (Some finding) → Judged j b
+  answers (not_at_goal c) fit finds shown = subst (Answers j b) (sym shown.0) (long fit, finds, shown.1)
+  answers (no_lane t) fit finds shown = subst (Answers j b) (sym shown.0) (long fit, finds.0, finds.1, shown.1)
+  answers (undecided s t) fit finds shown = subst (Answers j b) (sym shown.0) (long fit, finds.0, finds.1, finds.2, shown.1)
+  answers (head_on s t) fit finds shown = subst (Answers j b) (sym shown.0) (long fit, finds.0, finds.1, finds.2, shown.1)
+  answers (in_a_ring stops) fit finds shown = subst (Answers j b) (sym shown.0) (
+    long fit,
+    finds.0,
+    finds.1,
+    finds.3,
+    record { stops = stops; long = refl; ring = finds.2; written = shown.1; timetable_stands = shown.2 },
+  )
+  answers (passes times) fit finds shown = subst (Answers j b) (sym shown.0) (
+    long fit,
+    finds.0,
+    ((λ s. get_or times s 0), finds.1.earliest.good),
+    record {
+      all_stops = finds.1.one_each;
+      times = times;
+      one_each = finds.1.one_each;
+      written = shown.1;
+      earliest = finds.1.earliest;
+      ceiling = finds.1.ceiling;
+      ring_stands = shown.2;
+    },
+  )
+
+  in_full : (found : Option Finding) → Concludes (setting_in j) b (room_of j.pages) found → Shows j.pages j.answer found → Judged j b
+  in_full None short shown = subst (Answers j b) (sym shown.0) ((λ fit. let l = le-min fit.0 fit.1 in absurd (omega arith)), shown.1)
+  in_full (Some finding) (fit, finds) shown = answers finding fit finds shown
+
+  pub judged_in_full : Concluded j b → Judged j b
+  judged_in_full c = in_full c.found c.concludes c.shown
+
+  -- and it goes on from every history
+  pub goes_on_in_full : Concluded j b → (h : History Event) → Lawful h b → Lawful (h ▹ judged j) b
+  goes_on_in_full c h l = (b, l, (judged_in_full c, refl))
