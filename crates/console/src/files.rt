@@ -1,5 +1,6 @@
 // Reading the file of the yard.
 use lane_yard::yards::LaneYard;
+use session::answer::Refusal;
 use std::fs::File;
 use std::io;
 use std::io::Read;
@@ -24,13 +25,24 @@ fn feed(file: &mut File, read: &mut YardFile) -> io::Result<()> {
     Ok(())
 }
 
+// The refusal of the file, as that of a line or of a laying.
+fn as_refusal(refusal: FileRefusal) -> Refusal {
+    match refusal {
+        FileRefusal::Line { why } => Refusal::Line { why },
+        FileRefusal::Lay { why } => Refusal::Lay { why },
+    }
+}
+
 // Lays the lanes of `yard.hex` in the current folder. A file that cannot be read counts as empty.
-pub fn load_yard(rt: &HostRuntime, yard: &mut LaneYard) -> io::Result<Result<(), FileRefusal>> {
+pub fn load_yard(rt: &HostRuntime, yard: &mut LaneYard) -> io::Result<Result<(), Refusal>> {
     let mut read = YardFile::new(rt.alloc())?;
     if let Ok(mut file) = File::open(rt, "yard.hex") {
         if feed(&mut file, &mut read).is_err() {
             read = YardFile::new(rt.alloc())?;
         }
     }
-    Ok(read.lay(yard))
+    match read.lay(yard) {
+        Ok(()) => Ok(Ok(())),
+        Err(refusal) => Ok(Err(as_refusal(refusal))),
+    }
 }

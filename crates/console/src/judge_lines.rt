@@ -2,15 +2,26 @@
 use crate::files::load_yard;
 use crate::input::{TakesLines, take_lines};
 use lane_yard::yards::LaneYard;
-use session::sessions::Session;
+use session::answer::Refusal;
+use session::sessions::{Session, write_refusal};
 use std::io;
 use std::io::{BufWriter, Write};
-use yard_file::refusal::FileRefusal;
 
 // Writes a reply and its newline.
 fn put_reply(reply: &[u8], out: &mut impl Write) -> io::Result<()> {
     out.write_all(reply)?;
     out.write_all(b"\n")
+}
+
+// A session answers each line, with a page for that one reply.
+impl TakesLines for Session {
+    fn take_line(&mut self, line: &[u8], out: &mut impl Write) -> io::Result<()> {
+        let mut page = [0u8; 8198];
+        match self.reply(line, &mut page) {
+            Ok(count) => put_reply(&page[0..count], out),
+            Err(_) => unreachable(),
+        }
+    }
 }
 
 // A session with a page for its replies, which has room for every one.
@@ -30,9 +41,9 @@ impl TakesLines for Replier {
 }
 
 // Writes the one reply to a yard that is refused.
-fn refuse_yard(refusal: FileRefusal, out: &mut impl Write) -> io::Result<()> {
+fn refuse_yard(refusal: Refusal, out: &mut impl Write) -> io::Result<()> {
     let mut page = [0u8; 10];
-    match refusal.write(&mut page) {
+    match write_refusal(refusal, &mut page) {
         Ok(count) => put_reply(&page[0..count], out),
         Err(_) => unreachable(),
     }

@@ -68,7 +68,7 @@ fn write_refused(
                 write!(out, ": {cause}")?;
             }
         }
-        Refusal::Line { .. } => {}
+        Refusal::Line { .. } | Refusal::Lay { .. } => {}
     }
     writeln!(out)
 }

@@ -9,15 +9,15 @@ use lane_yard::yards::LaneYard;
 use lines::entry::{Entry, Input};
 use lines::read::read_entry;
 use lines::refusal::LineRefusal;
+use session::answer::Refusal;
 use std::fs::File;
 use std::io;
 use std::io::Write;
-use yard_file::refusal::FileRefusal;
 
 // Goes through the file once more for the line that it was refused for.
 #[derive(Drop)]
 struct RefusedLine {
-    refusal: FileRefusal,
+    refusal: Refusal,
     // The number of lines so far, and the lane of the last one.
     lines: u64,
     before: Option<Lane>,
@@ -81,8 +81,8 @@ impl TakesLines for RefusedLine {
     fn take_line(&mut self, line: &[u8], out: &mut impl Write) -> io::Result<()> {
         self.lines = self.lines.saturating_add(1);
         match (self.refusal, read_entry(line, Input::Yard)) {
-            (FileRefusal::Line { .. }, Err(why)) if !self.found => self.write_line(line, why, out),
-            (FileRefusal::Lay { why }, Ok(Entry::Lane { from, to, time })) => {
+            (Refusal::Line { .. }, Err(why)) if !self.found => self.write_line(line, why, out),
+            (Refusal::Lay { why }, Ok(Entry::Lane { from, to, time })) => {
                 let lane = Lane { from, to, time };
                 if let Some(index) = refused_index(why)
                     && u64::from(index) + 1 == self.lines
@@ -100,7 +100,7 @@ impl TakesLines for RefusedLine {
 // Writes which line of the file is refused, and why.
 pub(crate) fn write_refused_yard(
     rt: &HostRuntime,
-    refusal: FileRefusal,
+    refusal: Refusal,
     out: &mut impl Write,
 ) -> io::Result<()> {
     let mut search = RefusedLine {
@@ -116,7 +116,7 @@ pub(crate) fn write_refused_yard(
         return Ok(());
     }
     match refusal {
-        FileRefusal::Lay {
+        Refusal::Lay {
             why: LayRefusal::TooManyLanes,
         } => { writeln!(out, "yard.hex: REFUSED (20): a yard has at most 8192 lanes") }
         _ => writeln!(out, "yard.hex: REFUSED ({})", refusal.number()),

@@ -2,7 +2,8 @@
 use Rattle.std.proofs.Common.{◌≡◌, ℕ, ◌≤◌, List, length, Some, None, Err, vec_items, Option, Result, refl, ap, subst, arith}
 use Rattle.std.proofs.lemmas.List.{length-map}
 use Rattle.judge.specs.Findings.{Setting, Finding, Finds}
-use Rattle.judge.specs.Judged.{Judging, Judged, Concludes, room_of, shown_by}
+use Rattle.judge.specs.Judged.{Judging}
+use Rattle.judge.specs.Shown.{Concluded, Concludes, room_of, setting_in, shown_by}
 use Rattle.judge.specs.Settling.{Within}
 use Rattle.judge.specs.declared.refusal.JudgeRefusal.{JudgeRefusal}
 use Rattle.judge.specs.declared.refusal.JudgeRefusal.TheVariants.{PageTooShort, NotAtGoal, NoLane, Undecided, HeadOn, Ring}
@@ -22,10 +23,10 @@ roomy y b room few None short = omega arith
 roomy y b room few (Some finding) concludes = concludes.1
 
 -- what an answer r shows is found
-pub found_as : (j : Judging) (b : Book) (r : Result ℕ JudgeRefusal) → Judged j b → room_of j.pages ≡ 1024 → length b.stops ≤ 1024 → j.answer ≡ r → Found j.setting b (shown_by j.pages.timetable_after j.pages.ring_after r)
+pub found_as : (j : Judging) (b : Book) (r : Result ℕ JudgeRefusal) → Concluded j b → room_of j.pages ≡ 1024 → length b.stops ≤ 1024 → j.answer ≡ r → Found (setting_in j) b (shown_by j.pages.timetable_after j.pages.ring_after r)
 found_as j b r judged room few is =
-    subst (λ (q : Result ℕ JudgeRefusal). Found j.setting b (shown_by j.pages.timetable_after j.pages.ring_after q)) is
-    (roomy j.setting b 1024 few (shown_by j.pages.timetable_after j.pages.ring_after j.answer) (concludes_shown j b 1024 room judged))
+    subst (λ (q : Result ℕ JudgeRefusal). Found (setting_in j) b (shown_by j.pages.timetable_after j.pages.ring_after q)) is
+    (roomy (setting_in j) b 1024 few (shown_by j.pages.timetable_after j.pages.ring_after j.answer) (concludes_shown j b 1024 room judged))
 
 -- and so is what an equal finding says
 pub found_too : (y : Setting) (b : Book) (found : Option Finding) (finding : Finding) → found ≡ Some finding → Found y b found → Finds y b finding

@@ -1,6 +1,6 @@
 -- A run that goes on.
 use Rattle.std.proofs.Common.{◌≡◌, ℕ, List, [], ◌∷◌, ◌++◌, Ok, Err, Result, sym, refl, ap, ◌∙◌, subst}
-use Rattle.judge.specs.Histories.{Event, entered, Happens, Lawful}
+use Rattle.judge.specs.FindingHistories.{Event, entered, Happens, Lawful}
 use Rattle.plan.specs.Plans.{Lanes, Gaps}
 use Rattle.sheet.specs.Book.{Book, opened}
 use Rattle.sheet.specs.Calls.{Call as Entry, Answer as EntryAnswer}

@@ -1,7 +1,7 @@
 -- What is asked in a run and what is answered, as a history.
 use Rattle.std.specs.Prelude.{◌≡◌, ℕ, List, [], ◌∷◌, Some, Ok, Err, Result}
 use Rattle.judge.specs.Findings.{Setting}
-use Rattle.judge.specs.Histories.{Event, entered, judged, Lawful}
+use Rattle.judge.specs.FindingHistories.{Event, entered, judged, Lawful}
 use Rattle.plan.specs.Plans.{Lanes, Gaps}
 use Rattle.sheet.specs.Book.{Book}
 use Rattle.sheet.specs.Calls.{Call as Entry, enter_carrier, enter_stop, enter_precedence, strike_precedence}

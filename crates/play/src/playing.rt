@@ -1,6 +1,6 @@
 // Playing a list of calls.
 ghost use Rattle.std.specs.Prelude.{◌≡◌, IfOk};
-ghost use Rattle.judge.specs.Histories.{Event, Happens};
+ghost use Rattle.judge.specs.FindingHistories.{Event, Happens};
 ghost use Rattle.sheet.specs.Sheets.{sheet_book};
 ghost use Rattle.play.specs.Runs.{IsEvent, Played, entered_as};
 

@@ -1,7 +1,7 @@
 // A judging whose verdict is a value: no pages to prepare.
 ghost use Rattle.std.specs.Prelude.{◌≡◌, [], length, IfOk, Some, Err, ◌≢◌};
 ghost use Rattle.judge.specs.Findings.{Finds};
-ghost use Rattle.judge.specs.Judged.{shown_by};
+ghost use Rattle.judge.specs.Shown.{shown_by};
 ghost use Rattle.judge.specs.Settling.{Within};
 ghost use Rattle.judge.specs.declared.refusal.JudgeRefusal.TheVariants.{PageTooShort};
 ghost use Rattle.sheet.specs.Sheets.{sheet_book};

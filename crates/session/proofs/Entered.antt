@@ -1,7 +1,7 @@
 -- What an entry, a striking or a line does, as the session's answer says it.
 use Rattle.std.proofs.Common.{◌≡◌, ℕ, List, take, Ok, Err, Result, sym, refl, ap, ◌∙◌, subst}
 use Rattle.judge.specs.Findings.{Setting}
-use Rattle.judge.specs.Histories.{Event, entered, judged}
+use Rattle.judge.specs.FindingHistories.{Event, entered, judged}
 use Rattle.judge.specs.Settling.{Pages}
 use Rattle.lines.specs.Reading.{reading}
 use Rattle.lines.specs.declared.entry.Entry.{Entry}
@@ -15,11 +15,12 @@ use Rattle.replies.specs.Answers.{Answer as Reply, line_of}
 use Rattle.sheet.specs.Book.{Book}
 use Rattle.sheet.specs.Calls.{Call, Answer}
 use Rattle.sheet.specs.Histories.{Enters}
-use Rattle.session.specs.Answers.{Continues, Stand, entered_as, said}
+use Rattle.session.specs.Answers.{entered_as}
+use Rattle.session.specs.Writing.{Continues, Stand, said_by}
 use Rattle.session.specs.Replies.{Asks, EntryReplied, JudgingReplied, LineReplied, ReadReplied, reply_to_answer, setting_of}
 use Rattle.session.specs.declared.answer.Answer.{Answer as Said}
 
-says_entered : (timetable page : List ℕ) (answer : Answer) → said timetable page (entered_as answer) ≡ reply_to_answer answer
+says_entered : (timetable page : List ℕ) (answer : Answer) → said_by timetable page (entered_as answer) ≡ reply_to_answer answer
 says_entered timetable page (Ok number) = refl
 says_entered timetable page (Err why) = refl
 
@@ -30,12 +31,12 @@ stands_entered p (Err why) a t r is = rw is (t, r)
 
 module _ (lanes : Lanes) (b b' : Book) (entry : Entry) (timetable page : List ℕ) where
   -- an entry that asks for a call
-  pub called : (call : Call) (answer : Answer) (a : Said) → Asks lanes entry (entered call answer) → Enters b (call, answer) b' → a ≡ entered_as answer → EntryReplied lanes b entry (said timetable page a) b'
+  pub called : (call : Call) (answer : Answer) (a : Said) → Asks lanes entry (entered call answer) → Enters b (call, answer) b' → a ≡ entered_as answer → EntryReplied lanes b entry (said_by timetable page a) b'
   called call answer a asked enters is = record {
     event = entered call answer;
     asked = asked;
     happens = enters;
-    says = ap (said timetable page) is ∙ says_entered timetable page answer;
+    says = ap (said_by timetable page) is ∙ says_entered timetable page answer;
   }
 
   -- an entry that asks for a judging

@@ -6,7 +6,7 @@ use Rattle.replies.specs.Answers.{Answer as Reply, accepted, passed, ring, refus
 use Rattle.replies.proofs.Room.{made_by, reply_room, reply_size, reply_there, reply_within}
 use Rattle.plan.specs.Plans.{Lanes}
 use Rattle.sheet.specs.Book.{Book}
-use Rattle.session.specs.Answers.{Continues, Written}
+use Rattle.session.specs.Writing.{Continues, Written}
 use Rattle.session.specs.Replies.{LineReplied}
 use Rattle.session.proofs.Entered.{continues}
 

@@ -1,20 +1,26 @@
--- What an answer says together with the session's pages.
-use Rattle.std.specs.Prelude.{◌≡◌, ℕ, ◌≤◌, cond, List, length, take, is_ok, Ok, Err, Result}
-use Rattle.judge.specs.Settling.{Pages}
+-- What a session answers to a line.
+use Rattle.std.specs.Prelude.{◌≡◌, ℕ, ◌-◌, ◌<◌, ◌≤◌, cond, List, take, is_ok, Ok, Err, Option, Result}
+use Rattle.judge.specs.Judged.{Judged, judging_of}
 use Rattle.judge.specs.declared.refusal.JudgeRefusal.{JudgeRefusal}
 use Rattle.judge.specs.declared.refusal.JudgeRefusal.TheVariants.{PageTooShort, NotAtGoal, NoLane, Undecided, HeadOn, Ring as RingOf}
-use Rattle.lines.specs.Pages.{written}
+use Rattle.lines.specs.declared.entry.Entry.{Entry}
+use Rattle.lines.specs.declared.entry.Entry.TheVariants.{Carrier, Stop, Precedence, Strike, Judge, Lane}
+use Rattle.lines.specs.declared.entry.Rule.{Rule}
+use Rattle.lines.specs.declared.entry.Rule.TheVariants.{FullLane, LaneLessOne, FixedGap}
+use Rattle.lines.specs.declared.refusal.LineRefusal.{LineRefusal}
+use Rattle.lines.specs.declared.refusal.LineRefusal.TheVariants.{UnknownKind, BadRule}
 use Rattle.lines.specs.declared.refusal.WriteRefusal.{WriteRefusal}
+use Rattle.lines.specs.Pages.{written}
 use Rattle.replies.specs.Answers.{Answer as Reply, accepted, passed, ring, refused, line_of, writing}
-use Rattle.plan.specs.Plans.{Lanes}
+use Rattle.plan.specs.Plans.{Lanes, Gaps}
 use Rattle.sheet.specs.Book.{Book}
-use Rattle.sheet.specs.Histories.{History, ◌▹◌}
+use Rattle.sheet.specs.Calls.{Call, enter_carrier, enter_stop, enter_precedence, strike_precedence}
+use Rattle.sheet.specs.Histories.{Enters}
 use Rattle.sheet.specs.declared.refusal.EntryRefusal.{EntryRefusal}
 use Rattle.session.specs.Refusals.{number_of, told_by}
-use Rattle.session.specs.Replies.{Exchange, Lawful, LineReplied}
 use Rattle.session.specs.declared.answer.Answer.{Answer}
 use Rattle.session.specs.declared.answer.Answer.TheVariants.{Accepted, Passed, Ring, Refused}
-use Rattle.session.specs.declared.answer.Refusal.TheVariants.{Entry as OfEntry, Judge as OfJudge}
+use Rattle.session.specs.declared.answer.Refusal.TheVariants.{Line, Entry as OfEntry, Judge as OfJudge}
 
 -- as many numbers as are answered are on the pages, which have 1,024
 abbrev pub OnPages : Answer → Type 0
@@ -38,32 +44,55 @@ judged_as (Err (Undecided s t)) = Refused (OfJudge (Undecided s t))
 judged_as (Err (HeadOn s t)) = Refused (OfJudge (HeadOn s t))
 judged_as (Err (RingOf k)) = Ring k
 
--- what an answer says, with the session's timetable and its ring page
-abbrev pub said : List ℕ → List ℕ → Answer → Reply
-said timetable page (Accepted number) = accepted number
-said timetable page (Passed stops) = passed (take stops timetable)
-said timetable page (Ring long) = ring (take long page)
-said timetable page (Refused refusal) = refused (number_of refusal) (told_by refusal).0 (told_by refusal).1
+-- the pages of a session before and after a line
+pub record Change : Type 0 where
+  pub timetable : List ℕ
+  pub ring : List ℕ
+  pub timetable_after : List ℕ
+  pub ring_after : List ℕ
 
--- the timetable stands unless the sheet passes, and the ring page unless there is a ring
-abbrev pub Stand : Pages → Answer → Type 0
-Stand p (Accepted number) = (p.timetable_after ≡ p.timetable) × (p.ring_after ≡ p.ring)
-Stand p (Passed stops) = p.ring_after ≡ p.ring
-Stand p (Ring long) = p.timetable_after ≡ p.timetable
-Stand p (Refused refusal) = (p.timetable_after ≡ p.timetable) × (p.ring_after ≡ p.ring)
+-- the answer is that of a judging of the book in the yard under the rule, with these pages
+pub record Judges (lanes : Lanes) (gap : Gaps) (largest : ℕ) (b : Book) (p : Change) (a : Answer) : Type 0 where
+  pub outcome : Result ℕ JudgeRefusal
+  pub judged : Judged (judging_of lanes gap largest p.timetable p.ring p.timetable_after p.ring_after outcome) b
+  pub is : a ≡ judged_as outcome
 
--- a reply stands at the front of the page, or the page is too short for it and stands
-pub record Written (page page' : List ℕ) (r : Result ℕ WriteRefusal) (reply : Reply) : Type 0 where
-  pub value : r ≡ writing page 0 reply
-  pub after : page' ≡ cond (is_ok r) (written page 0 (line_of reply)) page
+-- the answer is that of a call on the book, which becomes b'
+pub record Calls (b : Book) (call : Call) (b' : Book) (a : Answer) : Type 0 where
+  pub outcome : Result ℕ EntryRefusal
+  pub enters : Enters b (call, outcome) b'
+  pub is : a ≡ entered_as outcome
 
--- the line is replied, and the reply is written
-pub record Replied (lanes : Lanes) (b b' : Book) (line page page' : List ℕ) (r : Result ℕ WriteRefusal) : Type 0 where
-  pub reply : Reply
-  pub replied : LineReplied lanes b line reply b'
-  pub on_page : Written page page' r reply
+-- what the reply to an answer says
+abbrev pub said : Change → Answer → Reply
+said p (Accepted number) = accepted number
+said p (Passed stops) = passed (take stops p.timetable_after)
+said p (Ring long) = ring (take long p.ring_after)
+said p (Refused refusal) = refused (number_of refusal) (told_by refusal).0 (told_by refusal).1
 
--- every history that led lawfully to b goes on with the line, and with every longer one of which its first 65 bytes are
--- kept, and this reply
-abbrev pub Continues : Lanes → Book → List ℕ → List ℕ → Book → Type 0
-Continues lanes b line text b' = (h : History Exchange) (whole : List ℕ) → take 65 whole ≡ take 65 line → Lawful lanes h b → Lawful lanes (h ▹ (whole, text)) b'
+-- what an entry is answered, and the book that it leaves
+module _ (lanes : Lanes) (b b' : Book) (p : Change) where
+  abbrev pub Ruled : Rule → Answer → Type 0
+  Ruled FullLane a = Judges lanes (λ _ _ time. time) 36000 b p a
+  Ruled LaneLessOne a = Judges lanes (λ _ _ time. time - 1) 35999 b p a
+  Ruled (FixedGap gap) a = (gap ≤ 36000 → Judges lanes (λ _ _ _. gap) 36000 b p a) × (36000 < gap → a ≡ Refused (Line BadRule))
+
+  abbrev pub Answered : Entry → Answer → Type 0
+  Answered (Carrier start goal) a = Calls b (enter_carrier start goal) b' a
+  Answered (Stop carrier place) a = Calls b (enter_stop carrier place) b' a
+  Answered (Precedence first second place) a = Calls b (enter_precedence first second place) b' a
+  Answered (Strike first second place) a = Calls b (strike_precedence first second place) b' a
+  Answered (Judge rule) a = Ruled rule a × (b' ≡ b)
+  Answered (Lane from to time) a = (a ≡ Refused (Line UnknownKind)) × (b' ≡ b)
+
+  -- what a line is answered, by what it reads as; a line that cannot be read leaves the book as it is
+  abbrev pub LineAnswered : Result Entry LineRefusal → Answer → Type 0
+  LineAnswered (Ok entry) a = Answered entry a
+  LineAnswered (Err why) a = (a ≡ Refused (Line why)) × (b' ≡ b)
+
+  -- the reply to a line stands at the front of the page, or the page is too short for it and stands
+  pub record Replied (line : Result Entry LineRefusal) (page page' : List ℕ) (r : Result ℕ WriteRefusal) : Type 0 where
+    pub answer : Answer
+    pub answered : LineAnswered line answer
+    pub value : r ≡ writing page 0 (said p answer)
+    pub after : page' ≡ cond (is_ok r) (written page 0 (line_of (said p answer))) page

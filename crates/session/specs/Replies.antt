@@ -1,8 +1,8 @@
 -- What the lines of a session are replied, and what they do to its sheet, from the opening on.
 use Rattle.std.specs.Prelude.{◌≡◌, ℕ, ◌-◌, List, Some, None, Ok, Err, Option, Result}
 use Rattle.judge.specs.Findings.{Setting, Finding, not_at_goal, no_lane, undecided, head_on, in_a_ring, passes}
-use Rattle.judge.specs.Histories.{Event, entered, judged, Happens}
-use Rattle.judge.specs.Judged.{Concludes}
+use Rattle.judge.specs.FindingHistories.{Event, entered, judged, Happens}
+use Rattle.judge.specs.Shown.{Concludes}
 use Rattle.judge.specs.Refusals as judging
 use Rattle.judge.specs.declared.refusal.JudgeRefusal.{JudgeRefusal}
 use Rattle.judge.specs.declared.refusal.JudgeRefusal.TheVariants.{PageTooShort, NotAtGoal, NoLane, Undecided, HeadOn}

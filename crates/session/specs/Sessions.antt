@@ -5,7 +5,7 @@ use Rattle.plan.specs.Plans.{Lanes}
 use Rattle.replies.specs.Answers.{Answer as Reply}
 use Rattle.sheet.specs.Book.{Book}
 use Rattle.sheet.specs.Sheets.{sheet_book}
-use Rattle.session.specs.Answers.{said}
+use Rattle.session.specs.Writing.{said_by}
 use Rattle.session.specs.declared.answer.Answer.{Answer}
 use Rattle.session.specs.declared.sessions.Session.{Session}
 
@@ -19,7 +19,7 @@ book_in s = sheet_book s.sheet
 
 -- what an answer says, with its pages
 abbrev pub said_in : Session → Answer → Reply
-said_in s a = said s.timetable s.ring a
+said_in s a = said_by s.timetable s.ring a
 
 -- its pages before and after
 abbrev pub pages_over : Session → Session → Pages

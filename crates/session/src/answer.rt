@@ -3,10 +3,11 @@ ghost use Rattle.std.specs.Prelude.{◌≡◌};
 ghost use Rattle.session.specs.Refusals.{number_of, told_by};
 
 use judge::refusal::JudgeRefusal;
+use lane_yard::refusal::LayRefusal;
 use lines::refusal::LineRefusal;
 use sheet::refusal::EntryRefusal;
 
-// Why a line is refused.
+// Why a line, or the file of the yard, is refused.
 #[derive(Clone, Copy)]
 pub enum Refusal {
     // The line cannot be read.
@@ -15,6 +16,8 @@ pub enum Refusal {
     Entry { why: EntryRefusal },
     // The sheet does not pass.
     Judge { why: JudgeRefusal },
+    // The lanes cannot be laid.
+    Lay { why: LayRefusal },
 }
 
 impl Refusal {
@@ -26,6 +29,7 @@ impl Refusal {
             Refusal::Line { why } => why.number(),
             Refusal::Entry { why } => why.number(),
             Refusal::Judge { why } => why.number(),
+            Refusal::Lay { why } => why.number(),
         }
     }
 
@@ -37,6 +41,7 @@ impl Refusal {
             Refusal::Line { why } => (why.told(), 0),
             Refusal::Entry { .. } => (0, 0),
             Refusal::Judge { why } => why.told(),
+            Refusal::Lay { why } => (why.told(), 0),
         }
     }
 }

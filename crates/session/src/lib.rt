@@ -3,3 +3,4 @@
 
 pub mod answer;
 pub mod sessions;
+pub mod yard_file;

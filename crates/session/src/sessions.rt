@@ -1,15 +1,20 @@
 // The session and its calls.
-ghost use Rattle.std.specs.Prelude.{◌≡◌, ◌≤◌, true, cond, length, take, is_ok, IfOk};
+ghost use Rattle.std.specs.Prelude.{◌≡◌, ◌≤◌, true, if◌then◌else◌, length, take, is_ok, IfOk};
 ghost use Rattle.judge.specs.Settling.{Within};
+ghost use Rattle.lane_yard.specs.Meaning.{lanes_of};
 ghost use Rattle.lines.specs.Entries.{Lawful as LawfulEntry, gap_of, has, kind_of};
+ghost use Rattle.lines.specs.Pages.{written};
+ghost use Rattle.lines.specs.Reading.{reading};
 ghost use Rattle.lines.specs.declared.entry.Input.TheVariants.{Sheet as SheetInput};
-ghost use Rattle.replies.specs.Answers.{line_of, refused};
+ghost use Rattle.replies.specs.Answers.{line_of, refused, writing};
 ghost use Rattle.sheet.specs.Book.{opened};
 ghost use Rattle.sheet.specs.Histories.History.{opening};
-ghost use Rattle.session.specs.Answers.{Continues, OnPages, Replied, Stand, Written, entered_as, judged_as};
+ghost use Rattle.sheet.specs.Sheets.{sheet_book};
+ghost use Rattle.session.specs.Answers.{Answered, Judges, LineAnswered, OnPages, Replied, Ruled, entered_as, judged_as};
 ghost use Rattle.session.specs.Refusals.{number_of, told_by};
 ghost use Rattle.session.specs.Replies.{EntryReplied, JudgingReplied, Lawful, LineReplied, setting_of};
 ghost use Rattle.session.specs.Sessions.{book_in, lanes_in, pages_over, said_in};
+ghost use Rattle.session.specs.Writing.{Continues, ReplyWritten, Stand};
 
 use crate::answer::{Answer, Refusal};
 use judge::judging::judge;
@@ -65,7 +70,7 @@ fn judged(outcome: Result<u16, JudgeRefusal>) -> Answer
 impl Session {
     // Opens a sheet beside the yard.
     pub fn open(heap: Global, yard: LaneYard) -> Result<Session, AllocError>
-        ensures opens { IfOk result (λ s. (book_in s ≡ opened) × (s.yard ≡ yard)) }
+        ensures opens { IfOk result (λ s. (sheet_book s.sheet ≡ opened) × (s.yard ≡ yard)) }
         ensures begins { IfOk result (λ s. Lawful (lanes_in s) opening (book_in s)) }
     {
         let sheet = Sheet::open(heap)?;
@@ -107,6 +112,7 @@ impl Session {
 
     // Judges the sheet in the yard under the rule.
     fn judge_by<R: FollowingRule>(&mut self, rule: &R) -> Answer
+        ensures judges { Judges (lanes_of self.old.yard) (R.FollowingRule.gaps rule.now) R.FollowingRule.largest (sheet_book self.old.sheet) (record { timetable = self.old.timetable; ring = self.old.ring; timetable_after = self.new.timetable; ring_after = self.new.ring }) result }
         ensures replied { JudgingReplied (record { lanes = lanes_in self.old; gap = R.FollowingRule.gaps rule.now; largest = R.FollowingRule.largest }) (book_in self.old) (said_in self.new result) }
         ensures same { (self.new.sheet ≡ self.old.sheet) × (self.new.yard ≡ self.old.yard) }
         ensures stand { Stand (pages_over self.old self.new) result }
@@ -124,6 +130,7 @@ impl Session {
     // Judges the sheet in the yard under the rule of a line.
     fn judge_under(&mut self, rule: Rule) -> Answer
         requires { gap_of rule ≤ 36000 }
+        ensures ruled { Ruled (lanes_of self.old.yard) (sheet_book self.old.sheet) (sheet_book self.new.sheet) (record { timetable = self.old.timetable; ring = self.old.ring; timetable_after = self.new.timetable; ring_after = self.new.ring }) rule result }
         ensures replied { JudgingReplied (setting_of (lanes_in self.old) rule) (book_in self.old) (said_in self.new result) }
         ensures same { (self.new.sheet ≡ self.old.sheet) × (self.new.yard ≡ self.old.yard) }
         ensures stand { Stand (pages_over self.old self.new) result }
@@ -145,6 +152,7 @@ impl Session {
     // Does what the entry says.
     fn take(&mut self, entry: Entry) -> Answer
         requires { LawfulEntry entry × (has SheetInput (kind_of entry) ≡ true) }
+        ensures answers { Answered (lanes_of self.old.yard) (sheet_book self.old.sheet) (sheet_book self.new.sheet) (record { timetable = self.old.timetable; ring = self.old.ring; timetable_after = self.new.timetable; ring_after = self.new.ring }) entry result }
         ensures replied { EntryReplied (lanes_in self.old) (book_in self.old) entry (said_in self.new result) (book_in self.new) }
         ensures same { self.new.yard ≡ self.old.yard }
         ensures stand { Stand (pages_over self.old self.new) result }
@@ -170,6 +178,7 @@ impl Session {
 
     // Answers a line of the sheet's input.
     pub fn answer(&mut self, line: &[u8]) -> Answer
+        ensures answers { LineAnswered (lanes_of self.old.yard) (sheet_book self.old.sheet) (sheet_book self.new.sheet) (record { timetable = self.old.timetable; ring = self.old.ring; timetable_after = self.new.timetable; ring_after = self.new.ring }) (reading SheetInput line.now) result }
         ensures replied { LineReplied (lanes_in self.old) (book_in self.old) line.now (said_in self.new result) (book_in self.new) }
         ensures goes_on { Continues (lanes_in self.old) (book_in self.old) line.now (line_of (said_in self.new result)) (book_in self.new) }
         ensures same { self.new.yard ≡ self.old.yard }
@@ -187,7 +196,8 @@ impl Session {
     // Answers a line of the sheet's input with its reply, at the front of the page, and says how long the reply is.
     // A page of 8,198 bytes has room for every reply; a line whose reply finds no room has been acted on all the same.
     pub fn reply(&mut self, line: &[u8], page: &mut [u8]) -> Result<usize, WriteRefusal>
-        ensures replied { Replied (lanes_in self.old) (book_in self.old) (book_in self.new) line.now page.old page.new result }
+        ensures replies { Replied (lanes_of self.old.yard) (sheet_book self.old.sheet) (sheet_book self.new.sheet) (record { timetable = self.old.timetable; ring = self.old.ring; timetable_after = self.new.timetable; ring_after = self.new.ring }) (reading SheetInput line.now) page.old page.new result }
+        ensures written { ReplyWritten (lanes_in self.old) (book_in self.old) (book_in self.new) line.now page.old page.new result }
         ensures goes_on { IfOk result (λ n. Continues (lanes_in self.old) (book_in self.old) line.now (take n page.new) (book_in self.new)) }
         ensures room { 8198 ≤ length page.old → is_ok result ≡ true }
         ensures within { IfOk result (λ n. n ≤ length page.old) }
@@ -204,9 +214,12 @@ impl Session {
     }
 }
 
-// Writes the reply of a refusal to the front of the page.
-fn write_refusal(refusal: Refusal, page: &mut [u8]) -> Result<usize, WriteRefusal>
-    ensures { Written page.old page.new result (refused (number_of refusal) (told_by refusal).0 (told_by refusal).1) }
+// Writes the reply of a refusal to the front of the page, which has room for it if it has 10 bytes.
+pub fn write_refusal(refusal: Refusal, page: &mut [u8]) -> Result<usize, WriteRefusal>
+    ensures value { result ≡ writing page.old 0 (refused (number_of refusal) (told_by refusal).0 (told_by refusal).1) }
+    ensures after { page.new ≡ (if is_ok result then written page.old 0 (line_of (refused (number_of refusal) (told_by refusal).0 (told_by refusal).1)) else page.old) }
+    ensures room { 10 ≤ length page.old → is_ok result ≡ true }
+    ensures within { IfOk result (λ n. n ≤ length page.old) }
 {
     let (first, second) = refusal.told();
     write_refused(refusal.number(), first, second, page, 0)

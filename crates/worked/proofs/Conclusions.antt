@@ -16,7 +16,8 @@ use Rattle.plan.specs.Lags.{Lag}
 use Rattle.plan.specs.Plans.{Opposed}
 use Rattle.plan.specs.Theorems.{Positive, FromZero, LagsDecideIn}
 use Rattle.plan.proofs.Heart.{decide_in}
-use Rattle.judge.specs.Findings.{Setting, undecided, head_on, in_a_ring, passes, UndecidedAt, Finds}
+use Rattle.judge.specs.Findings.{Setting, undecided, head_on, in_a_ring, passes, Finds}
+use Rattle.judge.specs.Judged.{UndecidedAt}
 use Rattle.worked.proofs.Lists.{In, in_has, has_in, Exactly, any?, all?, each_passes, decides_some, numbered, exactly_numbered, pairs, exactly_pairs}
 use Rattle.worked.proofs.Steps.{AStop, IsStop, IsLag, visits, exactly_visits, open_meetings, exactly_open, opposed, exactly_opposed, lags, exactly_lags}
 use Rattle.worked.proofs.Tests.{home?, home, on_lanes?, on_lanes, whole?, whole, lowest?, lowest}

@@ -10,7 +10,7 @@ use Rattle.sheet.specs.Histories.{History, opening, ◌▹◌}
 use Rattle.plan.specs.Plans.{Gaps, Leg, head_on as meet_head_on}
 use Rattle.plan.specs.Theorems.{Positive}
 use Rattle.judge.specs.Findings.{Setting, Finds, undecided, head_on, in_a_ring, passes}
-use Rattle.judge.specs.Histories.{Event, entered, judged, Lawful}
+use Rattle.judge.specs.FindingHistories.{Event, entered, judged, Lawful}
 use Rattle.worked.specs.Examples.{under, full_lane, lane_less_one, fixed_gap, PLanes, P, S, SStruck, STurned, judges_S, turns_S, LagsOfS, HeadOnApart, triangle_lanes, Triangle, judges_triangle, triangle_sheet, judges_one, one_sheet, first_calls, first_sheet, grid, LittleGrid, TwoRows, ListsOfLanes, Examples}
 use Rattle.worked.proofs.Steps.{exactly_legs}
 use Rattle.worked.proofs.Entries.{left}

@@ -2,8 +2,8 @@
 use Rattle.std.proofs.Common.{◌≡◌, refl, subst}
 use Rattle.sheet.specs.Book.{Book, opened}
 use Rattle.sheet.specs.Histories.{History, opening, ◌▹◌}
-use Rattle.judge.specs.Judged.{Concludes}
-use Rattle.judge.specs.Histories.{Event, entered, judged, Happens, Lawful}
+use Rattle.judge.specs.Shown.{Concludes}
+use Rattle.judge.specs.FindingHistories.{Event, entered, judged, Happens, Lawful}
 use Rattle.worked.proofs.Entries.{answer, answers, left, leaves}
 
 -- the book after an event, whatever answer it names

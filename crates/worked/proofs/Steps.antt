@@ -7,7 +7,7 @@ use Rattle.sheet.specs.Book.{BookStop, BookPrecedence, Book, Visits, Stands, Nex
 use Rattle.sheet.specs.Calls.{Standing}
 use Rattle.plan.specs.Lags.{Lag, travel, wait}
 use Rattle.plan.specs.Plans.{Lanes, Gaps, Leg, Opposed}
-use Rattle.judge.specs.Findings.{UndecidedAt}
+use Rattle.judge.specs.Judged.{UndecidedAt}
 use Rattle.worked.proofs.Lists.{Exactly, exactly_append, any?, decides_some, numbered, exactly_numbered, pairs, exactly_pairs, sift, exactly_sift, only, only_each, only_every}
 use Rattle.worked.proofs.Entries.{decided?, decides_decided, standing?, decides_standing}
 

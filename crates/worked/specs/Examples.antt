@@ -18,7 +18,7 @@ use Rattle.plan.specs.Lags.{Lag}
 use Rattle.plan.specs.Plans.{Lanes, Gaps, Conflict}
 use Rattle.plan.specs.Theorems.{Positive}
 use Rattle.judge.specs.Findings.{Setting, undecided, head_on, in_a_ring, passes}
-use Rattle.judge.specs.Histories.{Event, entered, judged, Lawful}
+use Rattle.judge.specs.FindingHistories.{Event, entered, judged, Lawful}
 
 -- judging in a yard with these lanes under a following rule, by the gaps that it gives and the largest that it names
 abbrev pub under : Gaps → ℕ → Lanes → Setting

@@ -1,6 +1,6 @@
 use Rattle.std.proofs.Common.{◌≡◌, Some, refl}
 use Rattle.judge.specs.Findings.{Setting}
-use Rattle.judge.specs.Histories.{entered, judged}
+use Rattle.judge.specs.FindingHistories.{entered, judged}
 use Rattle.sheet.specs.Calls.{enter_carrier, enter_stop, enter_precedence, strike_precedence}
 use Rattle.play.specs.Verdicts.{finding_of}
 use Rattle.play.proofs.Roomy.{few_stops}

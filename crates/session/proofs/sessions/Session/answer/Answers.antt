@@ -13,6 +13,7 @@ returns-in-Ok c =
     let reply = said_in after c.take.result in
     let replied = read_as (lanes_in own) (book_in own) (book_in after) line reply _ c.in-Ok.ensures.said c.take.ensures.replied in
     record {
+      answers = rw (← c.in-Ok.ensures.said) c.take.ensures.answers;
       replied = replied;
       goes_on = continues (lanes_in own) (book_in own) (book_in after) line reply replied;
       same = c.take.ensures.same;
@@ -28,6 +29,7 @@ returns-in-Err c =
     let reply = refused (number_of why) (told_by why) 0 in
     let replied = read_as (lanes_in own) (book_in own) (book_in own) line reply (Err why) c.in-Err.ensures.said (refl, refl) in
     record {
+      answers = rw (← c.in-Err.ensures.said) (refl, refl);
       replied = replied;
       goes_on = continues (lanes_in own) (book_in own) (book_in own) line reply replied;
       same = refl;

@@ -1,7 +1,8 @@
 use Rattle.std.proofs.Common.{◌≡◌, ℕ, ◌-◌, ◌≤◌, length, take, refl, arith, rules}
 use Rattle.std.proofs.lemmas.List.{length-take-le}
 use Rattle.replies.specs.Answers.{accepted, passed, ring, refused, count}
-use Rattle.session.specs.Answers.{Written}
+use Rattle.session.specs.Writing.{Written}
+use Rattle.session.specs.declared.answer.Answer.TheVariants.{Accepted, Passed, Ring, Refused}
 use Rattle.session.specs.Refusals.{number_of, told_by}
 use Rattle.session.specs.Sessions.{book_in, lanes_in}
 use Rattle.session.proofs.Fits.{finds_room, goes_on, inside}
@@ -19,7 +20,8 @@ returns-in-Accepted c =
     let few : count reply ≤ 1024 = omega arith in
     let w : Written page did.new.page did.result reply = record { value = did.ensures.value; after = did.ensures.after } in
     record {
-      replied = record { reply = reply; replied = told.replied; on_page = w };
+      replies = record { answer = Accepted c.in-Accepted.number; answered = told.answers; value = w.value; after = w.after };
+      written = record { reply = reply; replied = told.replied; on_page = w };
       goes_on = goes_on page did.new.page did.result reply few w (lanes_in own) (book_in own) (book_in after) line told.replied;
       room = finds_room page did.new.page did.result reply few w;
       within = inside page did.new.page did.result reply few w;
@@ -41,7 +43,8 @@ returns-in-Passed c =
     let few : count reply ≤ 1024 = let l = length-take-le c.in-Passed.stops after.timetable (omega arith) in omega arith in
     let w : Written page did.new.page did.result reply = record { value = rw all at did.ensures.value; after = rw all at did.ensures.after } in
     record {
-      replied = record { reply = reply; replied = told.replied; on_page = w };
+      replies = record { answer = Passed c.in-Passed.stops; answered = told.answers; value = w.value; after = w.after };
+      written = record { reply = reply; replied = told.replied; on_page = w };
       goes_on = goes_on page did.new.page did.result reply few w (lanes_in own) (book_in own) (book_in after) line told.replied;
       room = finds_room page did.new.page did.result reply few w;
       within = inside page did.new.page did.result reply few w;
@@ -63,7 +66,8 @@ returns-in-Ring c =
     let few : count reply ≤ 1024 = let l = length-take-le c.in-Ring.length after.ring (omega arith) in omega arith in
     let w : Written page did.new.page did.result reply = record { value = rw all at did.ensures.value; after = rw all at did.ensures.after } in
     record {
-      replied = record { reply = reply; replied = told.replied; on_page = w };
+      replies = record { answer = Ring c.in-Ring.length; answered = told.answers; value = w.value; after = w.after };
+      written = record { reply = reply; replied = told.replied; on_page = w };
       goes_on = goes_on page did.new.page did.result reply few w (lanes_in own) (book_in own) (book_in after) line told.replied;
       room = finds_room page did.new.page did.result reply few w;
       within = inside page did.new.page did.result reply few w;
@@ -80,9 +84,10 @@ returns-in-Refused c =
     let told = c.in-Refused.ensures in
     let reply = refused (number_of c.in-Refused.refusal) (told_by c.in-Refused.refusal).0 (told_by c.in-Refused.refusal).1 in
     let few : count reply ≤ 1024 = omega arith in
-    let w : Written page did.new.page did.result reply = did.ensures in
+    let w : Written page did.new.page did.result reply = record { value = did.ensures.value; after = did.ensures.after } in
     record {
-      replied = record { reply = reply; replied = told.replied; on_page = w };
+      replies = record { answer = Refused c.in-Refused.refusal; answered = told.answers; value = w.value; after = w.after };
+      written = record { reply = reply; replied = told.replied; on_page = w };
       goes_on = goes_on page did.new.page did.result reply few w (lanes_in own) (book_in own) (book_in after) line told.replied;
       room = finds_room page did.new.page did.result reply few w;
       within = inside page did.new.page did.result reply few w;
