@@ -38,39 +38,38 @@ fn check_ring<const N: usize>(rt: &impl Abort, lags: &[Lag], wanted: u16) {
 fn check_unfit<const N: usize, const ROOM: usize>(
     rt: &impl Abort,
     lags: &[Lag],
-) -> Result<(), Fail> {
+    why: &str,
+) {
     assert!(rt; N <= 1025 && ROOM <= 1025);
     let mut arrivals = [7u64; N];
     let mut page = [9u16; ROOM];
-    assert_eq!(rt; solve(lags, &mut arrivals, &mut page), Outcome::Unfit);
-    assert!(rt; arrivals == [7; N]);
-    assert!(rt; page == [9; ROOM]);
-    Ok(())
+    assert_eq!(rt; solve(lags, &mut arrivals, &mut page), Outcome::Unfit, "{why}");
+    assert!(rt; arrivals == [7; N], "{why}");
+    assert!(rt; page == [9; ROOM], "{why}");
 }
 
 // A ring through N nodes, whose numbers go up by `step` round the ring: it passes with the sum 0, and with the sum 1 it is found.
-fn check_ring_sums<const N: usize>(rt: &impl Abort, step: usize) -> Result<(), Fail> {
+fn check_ring_sums<const N: usize>(rt: &impl Abort, step: usize, nodes: &str) {
     assert!(rt; N <= 1024);
     let mut lags = [NO_LAG; N];
     let mut arrivals = [7u64; N];
     let mut page = [9u16; N];
     fill_ring(&mut lags, step, 0);
-    assert_eq!(rt; solve(&lags, &mut arrivals, &mut page), Outcome::Settled);
-    assert!(rt; page == [9; N]);
+    assert_eq!(rt; solve(&lags, &mut arrivals, &mut page), Outcome::Settled, "{nodes}");
+    assert!(rt; page == [9; N], "{nodes}");
     fill_ring(&mut lags, step, 1);
     check_ring::<N>(rt, &lags, N as u16);
-    Ok(())
 }
 
 #[test]
-fn rings_pass_up_to_the_sum_0(rt: HostRuntime) -> Result<(), Fail> {
-    check_ring_sums::<1>(&rt, 1).note("a lag from a node to itself")?;
-    check_ring_sums::<2>(&rt, 1).note("two nodes")?;
-    check_ring_sums::<3>(&rt, 1).note("three nodes")?;
-    check_ring_sums::<3>(&rt, 2).note("three nodes, falling")?;
-    check_ring_sums::<64>(&rt, 1).note("64 nodes")?;
-    check_ring_sums::<64>(&rt, 63).note("64 nodes, falling")?;
-    check_ring_sums::<64>(&rt, 27).note("64 nodes, mixed")
+fn rings_pass_up_to_the_sum_0(rt: HostRuntime) {
+    check_ring_sums::<1>(&rt, 1, "a lag from a node to itself");
+    check_ring_sums::<2>(&rt, 1, "two nodes");
+    check_ring_sums::<3>(&rt, 1, "three nodes");
+    check_ring_sums::<3>(&rt, 2, "three nodes, falling");
+    check_ring_sums::<64>(&rt, 1, "64 nodes");
+    check_ring_sums::<64>(&rt, 63, "64 nodes, falling");
+    check_ring_sums::<64>(&rt, 27, "64 nodes, mixed");
 }
 
 // Of two rings only the one with a sum above 0 is found; so it is among nodes that lead into it and out of it.
@@ -125,7 +124,7 @@ fn a_long_chain_settles_in_the_worst_order(rt: HostRuntime) {
 }
 
 #[test]
-fn limits(rt: HostRuntime) -> Result<(), Fail> {
+fn limits(rt: HostRuntime) {
     let mut arrivals = [7u64; 1024];
     let mut page = [9u16; 1024];
     let lags = [lag(0, 1023, -100000); 3073];
@@ -134,16 +133,15 @@ fn limits(rt: HostRuntime) -> Result<(), Fail> {
         Outcome::Settled
     );
     assert!(rt; arrivals == [0; 1024]);
-    check_unfit::<1024, 1024>(&rt, &lags).note("too many lags")?;
-    check_unfit::<1025, 1025>(&rt, &[]).note("too many nodes")?;
-    check_unfit::<1024, 1023>(&rt, &[]).note("a page too short")?;
-    check_unfit::<2, 2>(&rt, &[lag(0, 2, 1)]).note("no such end")?;
-    check_unfit::<2, 2>(&rt, &[lag(2, 1, 1)]).note("no such start")?;
-    check_unfit::<0, 0>(&rt, &[lag(0, 0, -1)]).note("no node at all")?;
-    check_unfit::<2, 2>(&rt, &[lag(0, 1, 100001)]).note("too heavy")?;
-    check_unfit::<2, 2>(&rt, &[lag(0, 1, -100001)]).note("too heavy below 0")?;
+    check_unfit::<1024, 1024>(&rt, &lags, "too many lags");
+    check_unfit::<1025, 1025>(&rt, &[], "too many nodes");
+    check_unfit::<1024, 1023>(&rt, &[], "a page too short");
+    check_unfit::<2, 2>(&rt, &[lag(0, 2, 1)], "no such end");
+    check_unfit::<2, 2>(&rt, &[lag(2, 1, 1)], "no such start");
+    check_unfit::<0, 0>(&rt, &[lag(0, 0, -1)], "no node at all");
+    check_unfit::<2, 2>(&rt, &[lag(0, 1, 100001)], "too heavy");
+    check_unfit::<2, 2>(&rt, &[lag(0, 1, -100001)], "too heavy below 0");
     check_settled(&rt, &[lag(0, 1, 100000)], [0, 100000]);
-    Ok(())
 }
 
 // The lags that a seed stands for: up to twelve between the nodes, with weights -5 to 4.
