@@ -1,5 +1,5 @@
 -- The lanes of a rising list are its records.
-use Rattle.std.proofs.Common.{◌≡◌, ℕ, suc, Bool, cond, ◌⊎◌, List, [], ◌∷◌, Some, Option, sym, ap, ◌∙◌, ⊎_elim, arith}
+use Rattle.std.proofs.Common.{◌≡◌, ℕ, suc, Bool, cond, List, [], ◌∷◌, Some, Option, sym, ap, ◌∙◌, ⊎_elim, arith}
 use Rattle.std.specs.List.{ContainsAt as Has}
 use Rattle.lane_yard.specs.declared.lane.Lane.{Lane}
 use Rattle.lane_yard.specs.Records.{lane, no_lane, time_of, Rising, Tells, LanesOf}

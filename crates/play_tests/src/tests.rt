@@ -252,7 +252,7 @@ fn triangle_and_empty_sheet(rt: HostRuntime) -> Result<(), Fail> {
             Answer::Judged {
                 verdict: Verdict::Ring { stops },
             },
-        ) => assert_eq!(rt; stops.as_slice(), &[3, 5, 4]),
+        ) => assert_eq!(rt; stops.as_slice(), [3, 5, 4].as_slice()),
         _ => return Err(Fail::new("there is a ring")),
     }
     check_passes(&rt, &answers, 11, &[0, 0, 0, 1, 1, 1])

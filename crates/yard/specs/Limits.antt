@@ -1,5 +1,5 @@
 -- The limits of places and lanes.
-use Rattle.std.specs.Prelude.{◌≡◌, ℕ, ◌≤◌, ◌≢◌}
+use Rattle.std.specs.Prelude.{ℕ, ◌≤◌, ◌≢◌}
 
 -- places are numbered 0 to 4,095
 abbrev pub Place : ℕ → Type 0
