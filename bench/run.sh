@@ -1,13 +1,14 @@
 #!/usr/bin/env bash
-# Builds everything that is measured, in target/, and prints the tables. Nothing else should run on the machine.
+# Builds everything that is measured, in target/ and in the crates' folders out/, and prints the tables. Nothing else
+# should run on the machine.
 # usage: bench/run.sh
 set -euo pipefail
 cd "$(dirname -- "$0")/.."
-kit=$(dirname -- "$(dirname -- "$(rt doc)")")
+kit=$(dirname -- "$(rt doc)")
 mkdir -p target
-rt check yardjudge >target/bench.log
-rt staticlib bench_export >>target/bench.log
-rustc --edition 2024 -C opt-level=3 bench/main.rs -L target/staticlib -l static=bench_export -L "$kit/lib" -l static=rattle_c -o target/bench
+(cd crates/yardjudge && rt run) >target/bench.log 2>&1
+(cd crates/bench_export && rt lib) >>target/bench.log 2>&1
+rustc --edition 2024 -C opt-level=3 bench/main.rs -L crates/bench_export/out -l static=bench_export -L "$kit/c" -l static=libc_c -l static=os_c -o target/bench
 g++ -std=c++17 -O2 bench/plain.cpp -o target/plain_cpp
 folder=$(mktemp -d)
 trap 'rm -rf -- "$folder"' EXIT
@@ -16,4 +17,4 @@ echo "$(rt version); $(rustc --version); $(g++ --version | head -1)"
 echo
 target/bench
 echo
-target/bench programs "$PWD/target/bin/yardjudge" "$PWD/target/plain_cpp" "$folder"
+target/bench programs "$PWD/crates/yardjudge/out/yardjudge" "$PWD/target/plain_cpp" "$folder"

@@ -1,5 +1,5 @@
 -- A page whose front is being written.
-use Rattle.std.proofs.Common.{◌≡◌, ℕ, ◌+◌, ◌<◌, ◌≤◌, List, [], ◌∷◌, ◌++◌, length, get_or, take, drop, set, sym, ap, ◌∙◌, arith}
+use Rattle.std.proofs.Common.{◌≡◌, ℕ, ◌+◌, ◌<◌, ◌≤◌, List, [], ◌∷◌, ◌++◌, length, get_or, take, drop, set, arith}
 use Rattle.std.proofs.lemmas.List.{take_more, drop_more, set_at, append_assoc, length-take-le, take_all}
 
 -- one more number

@@ -1,10 +1,8 @@
 -- What is concluded and shown, as the answer says it in full.
-use Rattle.std.proofs.Common.{◌≡◌, ℕ, ◌≤◌, length, get_or, Some, None, Ok, Err, Option, Result, refl, sym, subst, arith}
+use Rattle.std.proofs.Common.{◌≤◌, length, get_or, Some, None, Option, refl, sym, subst, arith}
 use native.Mathlib.Nat.{le-min, min-le_left, min-le_right}
 use Rattle.sheet.specs.Book.{Book}
 use Rattle.sheet.specs.Histories.{History, ◌▹◌}
-use Rattle.judge.specs.declared.refusal.JudgeRefusal.{JudgeRefusal}
-use Rattle.judge.specs.declared.refusal.JudgeRefusal.TheVariants.{PageTooShort, NotAtGoal, NoLane, Undecided, HeadOn, Ring}
 use Rattle.judge.specs.Findings.{Finding, not_at_goal, no_lane, undecided, head_on, in_a_ring, passes, Finds}
 use Rattle.judge.specs.Histories.{Event, judged, Lawful}
 use Rattle.judge.specs.Judged.{Judging, Answers, Judged, Long}

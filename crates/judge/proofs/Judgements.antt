@@ -1,5 +1,5 @@
 -- From what judging found to what it answers, in the words of the subject.
-use Rattle.std.proofs.Common.{◌≡◌, ℕ, ◌+◌, ◌-◌, ◌*◌, ◌<◌, ◌≤◌, max, Bool, true, false, cond, eqb, ◌≢◌, ◌⊎◌, List, length, get_or, ℤ, pos, ◌+ℤ◌, ◌-ℤ◌, ◌≤ℤ◌, IfSome, is_ok, Some, None, Ok, Err, vec_items, Option, Result, sym, refl, ap, ◌∙◌, subst, inl, inr, ⊎_elim, lt_of_not-le, arith}
+use Rattle.std.proofs.Common.{◌≡◌, ℕ, ◌-◌, ◌*◌, ◌≤◌, max, Bool, true, false, cond, eqb, ◌⊎◌, List, length, get_or, ℤ, IfSome, is_ok, Some, None, Ok, Err, vec_items, Option, Result, sym, refl, ap, ◌∙◌, subst, inl, inr, ⊎_elim, lt_of_not-le, arith}
 use native.Mathlib.Nat.{le-min, min-le_left, min-le_right}
 use Rattle.std.proofs.lemmas.List.{length-map}
 use Rattle.std.proofs.lemmas.Int.{ints}
@@ -10,12 +10,12 @@ use Rattle.lags.proofs.Ways.{ring_over, solution_over}
 use Rattle.sheet.specs.declared.records.Precedence.{Precedence}
 use Rattle.sheet.specs.declared.records.Stop.{Stop}
 use Rattle.sheet.specs.declared.sheets.Sheet.{Sheet}
-use Rattle.sheet.specs.Book.{Book, GoalOf, OnRoute, Visits, Stands, Next, Starts}
+use Rattle.sheet.specs.Book.{Book, GoalOf, Visits, Next, Starts}
 use Rattle.sheet.specs.Records.{book_stop, no_stop}
 use Rattle.sheet.specs.Sheets.{sheet_book}
 use Rattle.sheet.proofs.Facts as facts
 use Rattle.plan.specs.Lags.{Lag, travel, wait}
-use Rattle.plan.specs.Plans.{Lanes, Gaps, Leg, Good, Earliest, Possible, Complete, Opposed}
+use Rattle.plan.specs.Plans.{Lanes, Gaps, Earliest, Possible, Complete, Opposed}
 use Rattle.plan.specs.Theorems.{Orderly, Positive, FromZero}
 use Rattle.plan.proofs.Heart.{decide_in}
 use Rattle.judge.specs.declared.refusal.JudgeRefusal.{JudgeRefusal}
@@ -24,7 +24,7 @@ use Rattle.judge.specs.Findings.{Setting, Finding, not_at_goal, no_lane, undecid
 use Rattle.judge.specs.FindingHistories.{GoesOn}
 use Rattle.judge.specs.Judged.{Judging, Away, CutOff, UndecidedAt, PassesExactly}
 use Rattle.judge.specs.Shown.{Concludes, Shows, Concluded, room_of, setting_in}
-use Rattle.judge.specs.Legs.{Legs, Previous, NoLaneTo, ShortOfGoal}
+use Rattle.judge.specs.Legs.{Legs, NoLaneTo, ShortOfGoal}
 use Rattle.judge.specs.Lowest.{Lowest, LowestPair}
 use Rattle.judge.specs.Meetings.{Leads, OpenMeeting, LowestOpposed}
 use Rattle.judge.specs.Routing.{Untouched, WorkedOut, TurnedDown, Routed}

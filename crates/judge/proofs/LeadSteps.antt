@@ -1,12 +1,12 @@
 -- One more precedence, while the marks are made.
-use Rattle.std.proofs.Common.{◌≡◌, ℕ, ◌+◌, ◌*◌, ◌<◌, Bool, true, false, ◌⊎◌, List, length, get_or, set, replicate, sym, refl, ap, ◌∙◌, subst, ⊎_elim, arith}
+use Rattle.std.proofs.Common.{◌≡◌, ℕ, ◌+◌, ◌*◌, ◌<◌, Bool, true, false, List, length, get_or, set, replicate, sym, ap, ◌∙◌, ⊎_elim, arith}
 use Rattle.judge.proofs.Alike.{all_alike}
 use Rattle.std.proofs.lemmas.Bool.{cases_eq, both_ways}
 use Rattle.std.proofs.lemmas.List.{get_or-set_same, get_or-set_other}
 use Rattle.sheet.specs.declared.records.Precedence.{Precedence}
 use Rattle.sheet.specs.Records.{no_precedence}
 use Rattle.sheet.specs.Tables.{PrecedencesInside}
-use Rattle.judge.specs.Meetings.{Leads, leads_at}
+use Rattle.judge.specs.Meetings.{Leads}
 
 pub leads_more : (ps : List Precedence) (n : ℕ) (leads : List Bool) → PrecedencesInside 64 1024 ps → n < length ps → length leads ≡ 65536 → Leads ps n leads → Leads ps (n + 1) (set leads ((get_or ps n no_precedence).first_stop * 64 + (get_or ps n no_precedence).second) true)
 leads_more ps n leads inside in_ps long old =

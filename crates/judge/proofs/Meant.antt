@@ -1,24 +1,22 @@
 -- What judging's tables mean in the words of the book.
-use Rattle.std.proofs.Common.{◌≡◌, ℕ, ◌+◌, ◌<◌, ◌≤◌, Bool, true, false, ◌≢◌, ◌⊎◌, List, length, get_or, ℤ, pos, ◌-ℤ◌, Some, None, vec_items, vec_len, Option, sym, refl, ap, ◌∙◌, subst, inl, inr, ⊎_elim, arith}
-use Rattle.std.specs.List.{slice_get}
+use Rattle.std.proofs.Common.{◌≡◌, ℕ, ◌<◌, Bool, true, false, ◌≢◌, List, length, get_or, ℤ, pos, Some, None, vec_items, Option, sym, refl, ap, ◌∙◌, subst, inl, inr, ⊎_elim, arith}
 use Rattle.std.proofs.lemmas.Option.{slice_get-get_or}
-use Rattle.std.proofs.lemmas.Bool.{cases_eq, cases_order, both_ways, cases_Bool}
+use Rattle.std.proofs.lemmas.Bool.{cases_order, both_ways, cases_Bool}
 use Rattle.std.proofs.iter.runs.Lists.{slice_get_within}
 use Rattle.sheet.specs.declared.records.Carrier.{Carrier}
 use Rattle.sheet.specs.declared.records.Precedence.{Precedence}
 use Rattle.sheet.specs.declared.records.Stop.{Stop}
 use Rattle.sheet.specs.declared.sheets.Sheet.{Sheet}
-use Rattle.sheet.specs.Book.{Book, Goes, GoalOf, OnRoute, Visits, Stands, Decided, Next, Starts}
+use Rattle.sheet.specs.Book.{Book, Visits, Stands, Decided, Next}
 use Rattle.sheet.specs.Records.{no_carrier, no_stop, no_precedence}
 use Rattle.sheet.specs.Sheets.{sheet_book}
-use Rattle.sheet.specs.Tables.{StopsInside}
 use Rattle.sheet.proofs.Facts as facts
 use Rattle.plan.specs.Lags.{Lag, travel, wait}
-use Rattle.plan.specs.Plans.{Lanes, Gaps, Leg, Complete, Opposed}
+use Rattle.plan.specs.Plans.{Lanes, Gaps, Leg, Opposed}
 use Rattle.judge.specs.Judged.{Away, CutOff, UndecidedAt}
 use Rattle.judge.specs.Legs.{Legs, Previous, lane_between, ShortOfGoal}
-use Rattle.judge.specs.Meetings.{Leads, leads_at, OpenMeeting, OpposedBy, OpposedBelow}
-use Rattle.judge.specs.Waits.{Travel, Waiting, LagOf, Between}
+use Rattle.judge.specs.Meetings.{Leads, leads_at, OpenMeeting, OpposedBelow}
+use Rattle.judge.specs.Waits.{Between}
 
 module _ (sheet : Sheet) where
   abbrev b : Book

@@ -1,12 +1,12 @@
 -- From what each part of judging found to what is found of the routes.
-use Rattle.std.proofs.Common.{◌≡◌, ℕ, ◌≤◌, List, length, drop, Ok, Err, Option, Result, sym, refl, ap, ◌∙◌, subst, arith}
+use Rattle.std.proofs.Common.{◌≡◌, ℕ, ◌≤◌, List, length, drop, Ok, Err, Option, Result, ap, ◌∙◌, subst, arith}
 use Rattle.std.proofs.lemmas.List.{length-append}
 use Rattle.sheet.specs.declared.records.Precedence.{Precedence}
 use Rattle.sheet.specs.declared.records.Stop.{Stop}
 use Rattle.judge.specs.declared.refusal.JudgeRefusal.{JudgeRefusal}
 use Rattle.judge.specs.declared.refusal.JudgeRefusal.TheVariants.{PageTooShort, NotAtGoal, NoLane, Undecided, HeadOn, Ring}
 use Rattle.judge.specs.Legs.{Legs, LegRefused}
-use Rattle.judge.specs.Routing.{Untouched, PrecedencesClear, PrecedencesRefused, WorkedOut, TurnedDown, Routed}
+use Rattle.judge.specs.Routing.{Untouched, PrecedencesClear, PrecedencesRefused, Routed}
 use Rattle.judge.specs.Settling.{Pages, Settles, Within}
 use Rattle.judge.specs.Waits.{Between, Ready}
 

@@ -1,7 +1,7 @@
 -- From the lags that were gathered to what is written on the pages.
-use Rattle.std.proofs.Common.{◌≡◌, ℕ, ◌+◌, ◌-◌, ◌*◌, ◌^◌, ◌<◌, ◌≤◌, max, ◌⊎◌, List, ◌++◌, length, get_or, take, drop, ℤ, pos, negsuc, ◌-ℤ◌, ◌≤ℤ◌, Some, None, Option, sym, refl, ap, ◌∙◌, subst, inl, inr, ⊎_elim, arith}
+use Rattle.std.proofs.Common.{◌≡◌, ℕ, ◌+◌, ◌-◌, ◌*◌, ◌^◌, ◌<◌, ◌≤◌, max, List, ◌++◌, length, get_or, take, drop, ℤ, pos, negsuc, ◌-ℤ◌, ◌≤ℤ◌, Option, sym, ap, ◌∙◌, subst, ⊎_elim, arith}
 use native.Mathlib.Nat.{le-max_left, le-max_right}
-use Rattle.std.specs.List.{ContainsAt as Has, AllByRecursion as All}
+use Rattle.std.specs.List.{ContainsAt as Has}
 use Rattle.std.proofs.ByRecursion.{All-from_get_or, has_get_or}
 use Rattle.std.proofs.lemmas.List.{get_or-take, length-take-le, take-append-drop}
 use Rattle.std.proofs.lemmas.Int.{ints}
@@ -10,10 +10,9 @@ use Rattle.sheet.specs.declared.records.Stop.{Stop}
 use Rattle.sheet.specs.Records.{no_precedence, no_stop}
 use Rattle.lags.specs.declared.Lag.{Lag}
 use Rattle.lags.specs.Solved.{Listed, Allowed, Fit, Under, Earliest, Looped}
-use Rattle.lags.specs.Ways.{Ring, Solution, Least}
 use Rattle.lags.proofs.Ways.{ring_over, solution_over}
-use Rattle.judge.specs.Settling.{Pages, Front, TimesWritten, RingWritten}
-use Rattle.judge.specs.Waits.{no_lag, Travel, Waiting, Lists, LagOf, Ready, Between}
+use Rattle.judge.specs.Settling.{Pages, TimesWritten, RingWritten}
+use Rattle.judge.specs.Waits.{no_lag, Lists, LagOf, Ready, Between}
 
 -- the weight of waiting lies within the limits
 weight_low : (w : ℤ) (g t : ℕ) → w ≡ (pos (g + 1) -ℤ pos t) → t ≤ 36000 → negsuc 99999 ≤ℤ w

@@ -1,9 +1,9 @@
 -- An answer and its pages show one finding only.
-use Rattle.std.proofs.Common.{◌≡◌, ℕ, ◌≤◌, List, length, take, drop, Some, None, Ok, Err, Option, Result, sym, refl, ap, ◌∙◌, arith}
+use Rattle.std.proofs.Common.{◌≡◌, ℕ, List, length, take, drop, Some, None, Option, Result, refl, ap, ◌∙◌}
 use Rattle.std.proofs.lemmas.List.{take_at}
 use Rattle.sheet.specs.Book.{Book}
 use Rattle.judge.specs.declared.refusal.JudgeRefusal.{JudgeRefusal}
-use Rattle.judge.specs.Findings.{Setting, Finding, not_at_goal, no_lane, undecided, head_on, in_a_ring, passes, Finds}
+use Rattle.judge.specs.Findings.{Finding, not_at_goal, no_lane, undecided, head_on, in_a_ring, passes}
 use Rattle.judge.specs.Judged.{Judging}
 use Rattle.judge.specs.Shown.{Concluded, Concludes, Shows, room_of, setting_in, shown_by}
 use Rattle.judge.specs.Settling.{Pages, Front}

@@ -1,5 +1,5 @@
 -- What a judging answers, in the words of the subject.
-use Rattle.std.specs.Prelude.{◌≡◌, ℕ, ◌-◌, ◌*◌, ◌<◌, ◌≤◌, max, true, ◌≢◌, ◌⊎◌, List, length, is_ok, None, Ok, Err, Result, slice_index}
+use Rattle.std.specs.Prelude.{◌≡◌, ℕ, ◌-◌, ◌*◌, ◌<◌, ◌≤◌, max, true, ◌≢◌, List, length, is_ok, None, Ok, Err, Result, slice_index}
 use Rattle.lags.specs.Ways.{Ring as RingOf}
 use Rattle.sheet.specs.Book.{Book, GoalOf, OnRoute, Visits, Decided, Next}
 use Rattle.plan.specs.Lags.{Lag}

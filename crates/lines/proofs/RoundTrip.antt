@@ -1,7 +1,7 @@
 -- The line of an entry reads as that entry, and no other line does.
-use Rattle.std.proofs.Common.{◌≡◌, ℕ, zero, suc, ◌+◌, ◌*◌, ◌/◌, ◌%◌, ◌^◌, ◌<◌, ◌≤◌, Bool, true, false, cond, not, ◌&&◌, ◌||◌, eqb, ltb, List, [], ◌∷◌, length, get_or, take, Ok, Err, Result, sym, refl, ap, ◌∙◌, subst, arith, rules}
+use Rattle.std.proofs.Common.{◌≡◌, ℕ, zero, suc, ◌+◌, ◌*◌, ◌/◌, ◌%◌, ◌^◌, ◌<◌, ◌≤◌, Bool, true, false, cond, ◌&&◌, ◌||◌, eqb, ltb, List, [], ◌∷◌, length, get_or, take, Ok, Err, Result, sym, refl, ap, ◌∙◌, subst, arith, rules}
 use Rattle.std.specs.List.{AllByRecursion as All}
-use Rattle.std.proofs.lemmas.Bool.{cond_both, cond-false, eqb-true, eq-eqb, not-false, ltb-false, or_parts, eqb-false}
+use Rattle.std.proofs.lemmas.Bool.{cond_both, cond-false, eqb-true, eq-eqb, not-false, ltb-false}
 use Rattle.std.proofs.lemmas.Bool.Decides.{nat_tests}
 use Rattle.std.proofs.lemmas.List.{drop_more, drop_all}
 use Rattle.lines.specs.declared.entry.Rule.{Rule}
@@ -15,7 +15,7 @@ use Rattle.lines.specs.declared.refusal.LineRefusal.TheVariants.{BadLength}
 use Rattle.lines.specs.Digits.{first_bad_lem, digits, line_bytes, two}
 use Rattle.lines.specs.Entries.{kind_of, fields_of, rule_byte, gap_of, line_of, Lawful, has, Says}
 use Rattle.lines.specs.Reading.{Check, checks, checked, first_byte, word, size_of, unruled, rule_of, entry_of, reading}
-use Rattle.lines.proofs.Hexadecimal.{length_digits, bytes_digits, first_bad_digits, digits_bytes, length_bytes, small_bytes}
+use Rattle.lines.proofs.Hexadecimal.{length_digits, bytes_digits, first_bad_digits, digits_bytes, small_bytes}
 use Rattle.lines.proofs.Readings.{saying, any_saying, even_line, reading_kept}
 
 -- the bytes of an entry

@@ -1,10 +1,10 @@
 -- A good plan keeps every lag, and a plan that keeps every lag is good unless two stops are set head on.
-use Rattle.std.proofs.Common.{◌≡◌, ℕ, ◌+◌, ◌-◌, ◌<◌, ◌≤◌, ◌≢◌, ◌⊎◌, List, ℤ, pos, ◌+ℤ◌, ◌-ℤ◌, ◌≤ℤ◌, ◌<ℤ◌, inl, inr, ⊎_elim, arith}
+use Rattle.std.proofs.Common.{ℕ, ◌+◌, ◌-◌, ◌<◌, ◌≤◌, ◌≢◌, pos, ◌+ℤ◌, ◌-ℤ◌, ◌≤ℤ◌, ⊎_elim, arith}
 use native.Mathlib.Decide.{dec_lt}
 use Rattle.std.proofs.lemmas.Int.{ints}
-use Rattle.lags.specs.Ways.{Ring, Solution}
+use Rattle.lags.specs.Ways.{Solution}
 use Rattle.lags.proofs.Ways.{ring_excludes}
-use Rattle.sheet.specs.Book.{Book, Visits, Stands, Next, Starts}
+use Rattle.sheet.specs.Book.{Book, Visits, Stands}
 use Rattle.plan.specs.Plans.{Lanes, Gaps, Leg, Timed, Keeps, Conflict, at_one_place, following, head_on, Good, Complete, Opposed}
 use Rattle.plan.specs.Lags.{Lag, travel, wait}
 use Rattle.plan.specs.Theorems.{Orderly, Positive, FromZero, LagsDecideIn, LagsDecide}

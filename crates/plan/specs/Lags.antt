@@ -1,5 +1,5 @@
 -- The lags of a sheet in a yard under a rule: least differences between the arrivals at two stops.
-use Rattle.std.specs.Prelude.{◌≡◌, ℕ, ◌+◌, List, ℤ, pos, ◌-ℤ◌}
+use Rattle.std.specs.Prelude.{ℕ, ◌+◌, ℤ, pos, ◌-ℤ◌}
 use Rattle.sheet.specs.Book.{Book, Visits, Stands}
 use Rattle.plan.specs.Plans.{Lanes, Gaps, Leg}
 

@@ -1,6 +1,5 @@
 -- Timed plans and their conflicts, by tick.
-use Rattle.std.specs.Prelude.{◌≡◌, ℕ, ◌+◌, ◌-◌, ◌<◌, ◌≤◌, ◌≢◌, ◌⊎◌, length, Some, None, Option}
-use Rattle.std.specs.List.{slice_get}
+use Rattle.std.specs.Prelude.{◌≡◌, ℕ, ◌+◌, ◌-◌, ◌<◌, ◌≤◌, ◌≢◌, ◌⊎◌, length, Some, Option}
 use Rattle.sheet.specs.Book.{Book, GoalOf, Visits, Stands, Next, Starts}
 
 -- a yard's meaning: the travel time from place to place, where there is a lane

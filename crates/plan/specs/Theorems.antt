@@ -1,5 +1,5 @@
 -- What the lags of a sheet decide.
-use Rattle.std.specs.Prelude.{◌≡◌, ℕ, ◌≤◌, ◌≢◌, List, Some, None}
+use Rattle.std.specs.Prelude.{◌≡◌, ℕ, ◌≤◌, ◌≢◌, List, Some}
 use Rattle.lags.specs.Ways.{Ring, Solution}
 use Rattle.sheet.specs.Book.{Book, Visits, Stands, Starts}
 use Rattle.plan.specs.Plans.{Lanes, Gaps, Leg, Good, Opposed, Complete}

@@ -1,5 +1,5 @@
 -- What is found where the pages have room for every sheet.
-use Rattle.std.proofs.Common.{◌≡◌, ℕ, ◌≤◌, List, length, Some, None, Err, vec_items, Option, Result, refl, ap, subst, arith}
+use Rattle.std.proofs.Common.{◌≡◌, ℕ, ◌≤◌, List, length, Some, None, Err, vec_items, Option, Result, refl, subst, arith}
 use Rattle.std.proofs.lemmas.List.{length-map}
 use Rattle.judge.specs.Findings.{Setting, Finding, Finds}
 use Rattle.judge.specs.Judged.{Judging}

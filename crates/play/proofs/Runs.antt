@@ -1,10 +1,10 @@
 -- A run that goes on.
-use Rattle.std.proofs.Common.{◌≡◌, ℕ, List, [], ◌∷◌, ◌++◌, Ok, Err, Result, sym, refl, ap, ◌∙◌, subst}
+use Rattle.std.proofs.Common.{◌≡◌, ℕ, List, [], ◌∷◌, ◌++◌, Ok, Err, refl, ap, subst}
 use Rattle.judge.specs.FindingHistories.{Event, entered, Happens, Lawful}
 use Rattle.plan.specs.Plans.{Lanes, Gaps}
 use Rattle.sheet.specs.Book.{Book, opened}
 use Rattle.sheet.specs.Calls.{Call as Entry, Answer as EntryAnswer}
-use Rattle.sheet.specs.Histories.{History, opening, ◌▹◌, Enters}
+use Rattle.sheet.specs.Histories.{History, opening, ◌▹◌}
 use Rattle.play.specs.Runs.{Beside, EnteredSo, IsEvent, Played, entered_as}
 use Rattle.play.specs.declared.answers.Answer.{Answer}
 use Rattle.play.specs.declared.calls.Call.{Call}

@@ -1,12 +1,11 @@
 -- A reply is understood as what it says.
-use Rattle.std.proofs.Common.{◌≡◌, ℕ, suc, ◌+◌, ◌*◌, ◌/◌, ◌%◌, ◌^◌, ◌<◌, ◌≤◌, true, false, cond, eqb, ltb, List, [], ◌∷◌, ◌++◌, length, drop, Ok, Err, Result, sym, refl, ap, ◌∙◌, arith}
+use Rattle.std.proofs.Common.{◌≡◌, ℕ, ◌+◌, ◌*◌, ◌/◌, ◌%◌, ◌^◌, ◌<◌, false, cond, ltb, List, [], ◌∷◌, ◌++◌, length, Ok, Err, Result, refl, ap, arith}
 use Rattle.std.specs.List.{flat_map, AllByRecursion as All}
 use Rattle.std.proofs.lemmas.List.{drop_at}
 use Rattle.std.proofs.lemmas.Bool.{ne_eqb, ltb-false}
 use Rattle.lines.specs.declared.refusal.WriteRefusal.{WriteRefusal}
 use Rattle.lines.specs.declared.refusal.WriteRefusal.TheVariants.{ListTooLong}
-use Rattle.lines.specs.Digits.{two}
-use Rattle.replies.specs.Answers.{Answer, accepted, passed, ring, refused, pair, four, listed, bytes_of}
+use Rattle.replies.specs.Answers.{accepted, passed, ring, refused, pair, four, bytes_of}
 use Rattle.replies.specs.Questions.{Question, entering, judging, Suits, front_two, front_four, numbers, understood}
 
 -- numbers that were joined are taken apart again

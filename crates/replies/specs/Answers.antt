@@ -1,5 +1,5 @@
 -- What a reply can say, and the line that says it.
-use Rattle.std.specs.Prelude.{ℕ, ◌/◌, ◌%◌, cond, List, [], ◌∷◌, length, Ok, Err, Result, nat_lt}
+use Rattle.std.specs.Prelude.{ℕ, ◌/◌, ◌%◌, cond, List, [], ◌∷◌, length, Err, Result, nat_lt}
 use Rattle.std.specs.List.{flat_map}
 use Rattle.lines.specs.declared.refusal.WriteRefusal.{WriteRefusal}
 use Rattle.lines.specs.declared.refusal.WriteRefusal.TheVariants.{ListTooLong}

@@ -1,5 +1,5 @@
 -- What the bytes of a reply tell whoever asked.
-use Rattle.std.specs.Prelude.{◌≡◌, ℕ, zero, suc, ◌+◌, ◌*◌, cond, List, [], ◌∷◌, drop, ◌==◌, ◌≢◌, slice_index}
+use Rattle.std.specs.Prelude.{ℕ, zero, suc, ◌+◌, ◌*◌, cond, List, [], ◌∷◌, drop, ◌==◌, ◌≢◌, slice_index}
 use Rattle.lines.specs.Reading.{first_byte, word}
 use Rattle.replies.specs.Answers.{Answer, accepted, passed, ring, refused}
 

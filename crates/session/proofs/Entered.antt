@@ -1,7 +1,6 @@
 -- What an entry, a striking or a line does, as the session's answer says it.
 use Rattle.std.proofs.Common.{◌≡◌, ℕ, List, take, Ok, Err, Result, sym, refl, ap, ◌∙◌, subst}
-use Rattle.judge.specs.Findings.{Setting}
-use Rattle.judge.specs.FindingHistories.{Event, entered, judged}
+use Rattle.judge.specs.FindingHistories.{entered, judged}
 use Rattle.judge.specs.Settling.{Pages}
 use Rattle.lines.specs.Reading.{reading}
 use Rattle.lines.specs.declared.entry.Entry.{Entry}

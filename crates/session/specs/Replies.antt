@@ -17,7 +17,7 @@ use Rattle.lines.specs.declared.refusal.LineRefusal.{LineRefusal}
 use Rattle.replies.specs.Answers.{Answer as Reply, accepted, passed, ring, refused, line_of}
 use Rattle.plan.specs.Plans.{Lanes}
 use Rattle.sheet.specs.Book.{Book}
-use Rattle.sheet.specs.Calls.{Call, Answer, enter_carrier, enter_stop, enter_precedence, strike_precedence}
+use Rattle.sheet.specs.Calls.{Answer, enter_carrier, enter_stop, enter_precedence, strike_precedence}
 use Rattle.sheet.specs.Histories.{History, Leads}
 use Rattle.sheet.specs.Refusals as entering
 

@@ -22,7 +22,7 @@ use judge::refusal::JudgeRefusal;
 use lane_yard::yards::LaneYard;
 use lines::entry::{Entry, Input, Rule};
 use lines::read::read_entry;
-use lines::refusal::WriteRefusal;
+use lines::refusal::{LineRefusal, WriteRefusal};
 use replies::reply::{write_accepted, write_passed, write_refused, write_ring};
 use sheet::refusal::EntryRefusal;
 use sheet::sheets::Sheet;
@@ -129,9 +129,8 @@ impl Session {
 
     // Judges the sheet in the yard under the rule of a line.
     fn judge_under(&mut self, rule: Rule) -> Answer
-        requires { gap_of rule ≤ 36000 }
         ensures ruled { Ruled (lanes_of self.old.yard) (sheet_book self.old.sheet) (sheet_book self.new.sheet) (record { timetable = self.old.timetable; ring = self.old.ring; timetable_after = self.new.timetable; ring_after = self.new.ring }) rule result }
-        ensures replied { JudgingReplied (setting_of (lanes_in self.old) rule) (book_in self.old) (said_in self.new result) }
+        ensures replied { gap_of rule ≤ 36000 → JudgingReplied (setting_of (lanes_in self.old) rule) (book_in self.old) (said_in self.new result) }
         ensures same { (self.new.sheet ≡ self.old.sheet) × (self.new.yard ≡ self.old.yard) }
         ensures stand { Stand (pages_over self.old self.new) result }
         ensures within { OnPages result }
@@ -143,7 +142,11 @@ impl Session {
                 let mut fixed = FixedGap::new();
                 match fixed.set(gap) {
                     Ok(()) => self.judge_by(&fixed),
-                    Err(_) => unreachable(),
+                    Err(_) => Answer::Refused {
+                        refusal: Refusal::Line {
+                            why: LineRefusal::BadRule,
+                        },
+                    },
                 }
             }
         }
@@ -151,9 +154,8 @@ impl Session {
 
     // Does what the entry says.
     fn take(&mut self, entry: Entry) -> Answer
-        requires { LawfulEntry entry × (has SheetInput (kind_of entry) ≡ true) }
         ensures answers { Answered (lanes_of self.old.yard) (sheet_book self.old.sheet) (sheet_book self.new.sheet) (record { timetable = self.old.timetable; ring = self.old.ring; timetable_after = self.new.timetable; ring_after = self.new.ring }) entry result }
-        ensures replied { EntryReplied (lanes_in self.old) (book_in self.old) entry (said_in self.new result) (book_in self.new) }
+        ensures replied { LawfulEntry entry → has SheetInput (kind_of entry) ≡ true → EntryReplied (lanes_in self.old) (book_in self.old) entry (said_in self.new result) (book_in self.new) }
         ensures same { self.new.yard ≡ self.old.yard }
         ensures stand { Stand (pages_over self.old self.new) result }
         ensures within { OnPages result }
@@ -172,7 +174,11 @@ impl Session {
                 place,
             } => entered(self.sheet.strike_precedence(first, second, place)),
             Entry::Judge { rule } => self.judge_under(rule),
-            Entry::Lane { .. } => unreachable(),
+            Entry::Lane { .. } => Answer::Refused {
+                refusal: Refusal::Line {
+                    why: LineRefusal::UnknownKind,
+                },
+            },
         }
     }
 

@@ -1,6 +1,6 @@
 // The three following rules.
 ghost use Rattle.std.specs.Prelude.{◌≡◌, ◌-◌, ◌<◌, ◌≤◌, MatchResult};
-ghost use Rattle.std.proofs.Common.{rules, arith};
+ghost use Rattle.std.proofs.Common.{rules};
 
 use crate::FollowingRule;
 use crate::constant::Exactly;
@@ -101,11 +101,11 @@ impl FollowingRule for FixedGap {
 
     ghost gaps = { λ s _ _ _. s.ticks };
 
-    ghost named = { first_of (Prim.search rules, Prim.grind (arith, Self.row.coded.inj)) };
+    ghost named = { Prim.search rules };
 
-    ghost small = { first_of (Prim.search rules, Prim.grind (arith, Self.row.coded.inj)) };
+    ghost small = { Prim.search rules };
 
-    ghost bounded = { first_of (Prim.search rules, Prim.grind (arith, Self.row.coded.inj)) };
+    ghost bounded = { Prim.search rules };
 
     fn gap(&self, _from: u16, _to: u16, _time: u16) -> u32
         ensures { result ≡ self.now.ticks }

@@ -1,9 +1,8 @@
 -- One line more of a file.
-use Rattle.std.proofs.Common.{◌≡◌, ℕ, ◌<◌, ◌≤◌, List, [], ◌∷◌, ◌++◌, length, take, Some, None, Ok, Err, vec_items, Option, Result, sym, refl, ap, ◌∙◌, subst, arith}
+use Rattle.std.proofs.Common.{◌≡◌, ℕ, ◌<◌, ◌≤◌, List, [], ◌∷◌, ◌++◌, length, take, Some, None, Ok, Err, vec_items, Option, Result, sym, refl, ap, ◌∙◌, arith}
 use Rattle.std.proofs.lemmas.List.{append_assoc, append-nil, length_push, take_all, take-append-le}
-use Rattle.lines.specs.Buffers.{Keeps}
 use Rattle.yard_file.specs.Lines.{lines_of}
-use Rattle.yard_file.specs.Splits.{Split, last_line}
+use Rattle.yard_file.specs.Splits.{Split}
 use Rattle.yard_file.proofs.Split.{split_lines}
 use Rattle.lines.proofs.Takes.{take_front}
 use Rattle.lane_yard.specs.declared.lane.Lane.{Lane}

@@ -1,8 +1,8 @@
 // What has been read of the file of a yard.
 ghost use Rattle.std.specs.Prelude.{◌≤◌, vec_len, vec_capacity};
 
-use lines::buffer::LineBuffer;
 use lane_yard::lane::Lane;
+use lines::buffer::LineBuffer;
 use lines::refusal::LineRefusal;
 
 mod calls;

@@ -4,7 +4,7 @@ ghost use Rattle.grid_yard.specs.Cells.{LanesOf};
 ghost use Rattle.grid_yard.specs.Faults.{Fault, Lawful, needed};
 ghost use Rattle.grid_yard.specs.Meaning.{lanes_of};
 ghost use Rattle.grid_yard.specs.Times.{open_cell};
-ghost use Rattle.std.proofs.Common.{rules, arith};
+ghost use Rattle.std.proofs.Common.{rules};
 
 use crate::cells::{is_closed, step_time};
 use crate::checks::{check_grid, words_needed};
@@ -65,7 +65,7 @@ impl GridYard {
 impl Yard for GridYard {
     ghost lanes = { lanes_of };
 
-    ghost limited = { first_of (Prim.search rules, Prim.grind (arith, Self.row.coded.inj)) };
+    ghost limited = { Prim.search rules };
 
     fn travel_time(&self, from: u16, to: u16) -> Option<u16>
         ensures { result ≡ lanes_of self.now from to }

@@ -7,9 +7,9 @@ ghost use Rattle.yard_file.specs.Laying.{FileLaid, earlier, lane_said};
 
 use crate::files::YardFile;
 use crate::refusal::FileRefusal;
-use lines::buffer::LineBuffer;
 use lane_yard::lane::Lane;
 use lane_yard::yards::LaneYard;
+use lines::buffer::LineBuffer;
 use lines::entry::{Entry, Input};
 use lines::read::read_entry;
 use lines::refusal::LineRefusal;

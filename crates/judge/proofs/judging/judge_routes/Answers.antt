@@ -1,4 +1,4 @@
-use Rattle.std.proofs.Common.{max, refl, ◌∙◌, arith}
+use Rattle.std.proofs.Common.{max, refl, arith}
 use Rattle.std.proofs.lemmas.Result.{err_from_is_err_and}
 use Rattle.judge.specs.Settling.{Pages}
 use Rattle.judge.proofs.Routings.{routed_leg, routed_refused, routed_settled}

@@ -1,4 +1,4 @@
-use Rattle.std.proofs.Common.{refl, ◌∙◌, arith}
+use Rattle.std.proofs.Common.{refl, arith}
 use Rattle.judge.proofs.Settlings.{fit, times_fit, times_written, ring_written}
 use Rattle.judge.proofs.judging.settle.Goals as goal
 

@@ -1,4 +1,4 @@
-use Rattle.std.proofs.Common.{◌∙◌, arith}
+use Rattle.std.proofs.Common.{arith}
 use Rattle.judge.proofs.LeadSteps.{leads_none, leads_more}
 use Rattle.judge.proofs.meetings.mark_leads.Goals as goal
 

@@ -1,5 +1,4 @@
 use Rattle.judge.specs.Meetings.{Leads}
-use Rattle.std.proofs.Common.{◌≡◌, length}
 use Rattle.judge.proofs.meetings.mark_leads.Given as goal
 
 abbrev pub invariant-loop-precedence : goal.invariant-loop-precedence

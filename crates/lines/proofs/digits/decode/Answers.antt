@@ -1,5 +1,5 @@
-use Rattle.std.proofs.Common.{◌≡◌, ℕ, ◌+◌, ◌*◌, ◌/◌, ◌<◌, ◌≤◌, List, [], ◌∷◌, ◌++◌, length, get_or, take, drop, set, sym, ap, ◌∙◌, arith, rules}
-use Rattle.std.proofs.lemmas.List.{drop_more, take_more_set, append_assoc, append-nil, drop_all, at_drop_all}
+use Rattle.std.proofs.Common.{◌≡◌, ℕ, ◌+◌, ◌*◌, ◌<◌, List, [], ◌∷◌, length, get_or, take, drop, arith, rules}
+use Rattle.std.proofs.lemmas.List.{drop_more, take_more_set, append_assoc, append-nil, at_drop_all}
 use Rattle.lines.specs.Digits.{line_bytes, byte}
 use Rattle.lines.proofs.digits.decode.Goals as goal
 

@@ -1,4 +1,4 @@
-use Rattle.std.proofs.Common.{◌≡◌, ℕ, ◌+◌, ◌*◌, ◌/◌, ◌%◌, ◌<◌, ◌≤◌, List, [], ◌∷◌, ◌++◌, length, get_or, take, drop, set, sym, ap, ◌∙◌, arith, rules}
+use Rattle.std.proofs.Common.{◌≡◌, ℕ, ◌+◌, ◌*◌, ◌/◌, ◌%◌, ◌<◌, List, [], ◌∷◌, ◌++◌, length, get_or, take, drop, set, ap, arith, rules}
 use Rattle.std.proofs.lemmas.List.{drop_more, take_more, append_assoc, length-take-le, length_push, set_at, take_all}
 use Rattle.lines.specs.Digits.{digit_for, digits}
 use Rattle.lines.proofs.Hexadecimal.{length_digits, digits_append}

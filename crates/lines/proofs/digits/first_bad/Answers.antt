@@ -1,4 +1,4 @@
-use Rattle.std.proofs.Common.{◌≡◌, ℕ, suc, ◌+◌, cond, get_or, drop, is_some, arith, rules}
+use Rattle.std.proofs.Common.{◌≡◌, suc, ◌+◌, cond, get_or, drop, is_some, arith, rules}
 use Rattle.std.proofs.lemmas.List.{at_drop_more, at_drop_all}
 use Rattle.lines.specs.Digits.{first_bad_lem, value_of}
 use Rattle.lines.proofs.digits.first_bad.Goals as goal

@@ -1,4 +1,4 @@
-use Rattle.std.proofs.Common.{◌≡◌, Some, refl}
+use Rattle.std.proofs.Common.{Some, refl}
 use Rattle.judge.specs.Findings.{Setting}
 use Rattle.judge.specs.FindingHistories.{entered, judged}
 use Rattle.sheet.specs.Calls.{enter_carrier, enter_stop, enter_precedence, strike_precedence}

@@ -1,10 +1,7 @@
-use Rattle.std.proofs.Common.{◌≡◌, List, [], ◌∷◌, ◌++◌, take, vec_items, sym, refl, ap, ◌∙◌, subst, arith}
+use Rattle.std.proofs.Common.{[], ◌∷◌, ◌++◌, take, vec_items, sym, ap, ◌∙◌, arith}
 use Rattle.std.proofs.lemmas.List.{take_all, take_more}
-use Rattle.sheet.specs.Histories.{opening}
 use Rattle.sheet.specs.Sheets.{sheet_book}
-use Rattle.play.specs.Runs.{Beside}
-use Rattle.play.specs.declared.answers.Answer.{Answer}
-use Rattle.play.proofs.Runs.{SoFar, further, played, so_far_as, so_far_none}
+use Rattle.play.proofs.Runs.{further, played, so_far_as, so_far_none}
 use Rattle.play.proofs.playing.play.Goals as goal
 
 pub loop-call-init : goal.loop-call-init

@@ -1,8 +1,7 @@
-use Rattle.std.proofs.Common.{◌≡◌, ℕ, ◌-◌, ◌≤◌, List, [], length, take, Some, Ok, Err, vec_items, sym, refl, ap, ◌∙◌, subst, arith, rules}
+use Rattle.std.proofs.Common.{◌≡◌, ℕ, ◌-◌, List, [], length, take, Some, Ok, Err, vec_items, sym, refl, ap, ◌∙◌, arith}
 use Rattle.std.proofs.lemmas.Result.{IfOk-weaker}
-use Rattle.judge.specs.Findings.{Finds, passes}
+use Rattle.judge.specs.Findings.{passes}
 use Rattle.judge.specs.declared.refusal.JudgeRefusal.TheVariants.{PageTooShort}
-use Rattle.sheet.specs.Sheets.{sheet_book}
 use Rattle.play.specs.Verdicts.{finding_of}
 use Rattle.play.proofs.Roomy.{few_stops, found_as, found_too, shown_refusal, within_ring}
 use Rattle.play.proofs.verdicts.judge_sheet.Goals as goal

@@ -1,4 +1,4 @@
-use Rattle.std.proofs.Common.{◌≡◌, List, [], ◌∷◌, get_or, ap, ◌∙◌, arith, rules}
+use Rattle.std.proofs.Common.{◌≡◌, [], ◌∷◌, get_or, ap, ◌∙◌, arith, rules}
 use Rattle.replies.specs.Answers.{accepted, bytes_of, line_of}
 use Rattle.replies.specs.Questions.{entering, understood}
 use Rattle.replies.proofs.Understood.{accepted_back}

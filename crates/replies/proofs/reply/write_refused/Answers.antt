@@ -1,4 +1,4 @@
-use Rattle.std.proofs.Common.{◌≡◌, ℕ, List, [], ◌∷◌, get_or, ap, ◌∙◌, arith, rules}
+use Rattle.std.proofs.Common.{◌≡◌, [], ◌∷◌, get_or, ap, ◌∙◌, arith, rules}
 use Rattle.replies.specs.Answers.{refused, bytes_of, line_of}
 use Rattle.replies.specs.Questions.{understood}
 use Rattle.replies.proofs.Understood.{refused_back}

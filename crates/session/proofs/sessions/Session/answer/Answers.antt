@@ -1,4 +1,4 @@
-use Rattle.std.proofs.Common.{◌≡◌, Err, sym, refl, ap, ◌∙◌, rules}
+use Rattle.std.proofs.Common.{Err, refl}
 use Rattle.lines.specs.Refusals.{number_of, told_by}
 use Rattle.replies.specs.Answers.{refused}
 use Rattle.session.specs.Sessions.{book_in, lanes_in, said_in}
@@ -11,7 +11,7 @@ returns-in-Ok c =
     let after = c.take.new.self in
     let line = c.args.line.now in
     let reply = said_in after c.take.result in
-    let replied = read_as (lanes_in own) (book_in own) (book_in after) line reply _ c.in-Ok.ensures.said c.take.ensures.replied in
+    let replied = read_as (lanes_in own) (book_in own) (book_in after) line reply _ c.in-Ok.ensures.said (let says = (c.in-Ok.ensures.exact c.in-Ok.entry).0 refl in c.take.ensures.replied says.1 says.2) in
     record {
       answers = rw (← c.in-Ok.ensures.said) c.take.ensures.answers;
       replied = replied;

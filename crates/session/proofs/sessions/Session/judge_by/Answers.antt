@@ -1,4 +1,4 @@
-use Rattle.std.proofs.Common.{◌≡◌, min, length, sym, subst, arith, rules}
+use Rattle.std.proofs.Common.{◌≡◌, length, sym, subst, rules}
 use Rattle.judge.specs.Judged.{judging_of}
 use Rattle.lane_yard.specs.Meaning.{lanes_of}
 use Rattle.sheet.specs.Sheets.{sheet_book}

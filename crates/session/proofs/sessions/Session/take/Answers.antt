@@ -12,7 +12,7 @@ returns-in-Carrier c =
     let is = c.entered.ensures.value in
     record {
       answers = rw c.in-Carrier.is (record { outcome = did.result; enters = (did.ensures.answers, did.ensures.leaves); is = is });
-      replied = called (lanes_in own) (book_in own) (sheet_book did.new.self) c.args.entry own.timetable own.ring (enter_carrier c.in-Carrier.start c.in-Carrier.goal) did.result c.entered.result (rw c.in-Carrier.is (did.result, refl)) (did.ensures.answers, did.ensures.leaves) is;
+      replied = λ _ _. called (lanes_in own) (book_in own) (sheet_book did.new.self) c.args.entry own.timetable own.ring (enter_carrier c.in-Carrier.start c.in-Carrier.goal) did.result c.entered.result (rw c.in-Carrier.is (did.result, refl)) (did.ensures.answers, did.ensures.leaves) is;
       same = search rules;
       stand = stands_entered (pages_over own own) did.result c.entered.result refl refl is;
       within = search rules;
@@ -25,7 +25,7 @@ returns-in-Stop c =
     let is = c.entered-in-Stop.ensures.value in
     record {
       answers = rw c.in-Stop.is (record { outcome = did.result; enters = (did.ensures.answers, did.ensures.leaves); is = is });
-      replied = called (lanes_in own) (book_in own) (sheet_book did.new.self) c.args.entry own.timetable own.ring (enter_stop c.in-Stop.carrier c.in-Stop.place) did.result c.entered-in-Stop.result (rw c.in-Stop.is (did.result, refl)) (did.ensures.answers, did.ensures.leaves) is;
+      replied = λ _ _. called (lanes_in own) (book_in own) (sheet_book did.new.self) c.args.entry own.timetable own.ring (enter_stop c.in-Stop.carrier c.in-Stop.place) did.result c.entered-in-Stop.result (rw c.in-Stop.is (did.result, refl)) (did.ensures.answers, did.ensures.leaves) is;
       same = search rules;
       stand = stands_entered (pages_over own own) did.result c.entered-in-Stop.result refl refl is;
       within = search rules;
@@ -38,7 +38,7 @@ returns-in-Precedence c =
     let is = c.entered-in-Precedence.ensures.value in
     record {
       answers = rw c.in-Precedence.is (record { outcome = did.result; enters = (did.ensures.answers, did.ensures.leaves); is = is });
-      replied = called (lanes_in own) (book_in own) (sheet_book did.new.self) c.args.entry own.timetable own.ring (enter_precedence c.in-Precedence.first c.in-Precedence.second c.in-Precedence.place) did.result c.entered-in-Precedence.result (rw c.in-Precedence.is (did.result, refl)) (did.ensures.answers, did.ensures.leaves) is;
+      replied = λ _ _. called (lanes_in own) (book_in own) (sheet_book did.new.self) c.args.entry own.timetable own.ring (enter_precedence c.in-Precedence.first c.in-Precedence.second c.in-Precedence.place) did.result c.entered-in-Precedence.result (rw c.in-Precedence.is (did.result, refl)) (did.ensures.answers, did.ensures.leaves) is;
       same = search rules;
       stand = stands_entered (pages_over own own) did.result c.entered-in-Precedence.result refl refl is;
       within = search rules;
@@ -51,7 +51,7 @@ returns-in-Strike c =
     let is = c.entered-in-Strike.ensures.value in
     record {
       answers = rw c.in-Strike.is (record { outcome = did.result; enters = (did.ensures.answers, did.ensures.leaves); is = is });
-      replied = called (lanes_in own) (book_in own) (sheet_book did.new.self) c.args.entry own.timetable own.ring (strike_precedence c.in-Strike.first c.in-Strike.second c.in-Strike.place) did.result c.entered-in-Strike.result (rw c.in-Strike.is (did.result, refl)) (did.ensures.answers, did.ensures.leaves) is;
+      replied = λ _ _. called (lanes_in own) (book_in own) (sheet_book did.new.self) c.args.entry own.timetable own.ring (strike_precedence c.in-Strike.first c.in-Strike.second c.in-Strike.place) did.result c.entered-in-Strike.result (rw c.in-Strike.is (did.result, refl)) (did.ensures.answers, did.ensures.leaves) is;
       same = search rules;
       stand = stands_entered (pages_over own own) did.result c.entered-in-Strike.result refl refl is;
       within = search rules;
@@ -63,7 +63,7 @@ returns-in-Judge c =
     let did = c.judge_under in
     record {
       answers = rw c.in-Judge.is (did.ensures.ruled, ap sheet_book did.ensures.same.0);
-      replied = judged_under (lanes_in own) (book_in own) (book_in did.new.self) c.args.entry own.timetable own.ring c.in-Judge.rule _ c.in-Judge.is did.ensures.replied (ap sheet_book did.ensures.same.0);
+      replied = λ lawful _. judged_under (lanes_in own) (book_in own) (book_in did.new.self) c.args.entry own.timetable own.ring c.in-Judge.rule _ c.in-Judge.is (did.ensures.replied (rw c.in-Judge.is at lawful)) (ap sheet_book did.ensures.same.0);
       same = search rules;
       stand = did.ensures.stand;
       within = search rules;

@@ -1,4 +1,4 @@
-use Rattle.std.proofs.Common.{◌≡◌, refl, ap, ◌∙◌}
+use Rattle.std.proofs.Common.{◌∙◌}
 use Rattle.yard_file.proofs.Noted.{ended_more}
 use Rattle.yard_file.proofs.files.YardFile.end_line.Goals as goal
 

@@ -1,4 +1,4 @@
-use Rattle.std.proofs.Common.{◌≡◌, length, vec_items, vec_len, refl, ◌∙◌, arith, rules}
+use Rattle.std.proofs.Common.{vec_items, ◌∙◌, arith, rules}
 use Rattle.yard_file.proofs.Noted.{kept_more, kept_full}
 use Rattle.yard_file.proofs.files.YardFile.keep.Goals as goal
 

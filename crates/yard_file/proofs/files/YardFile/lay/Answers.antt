@@ -1,11 +1,9 @@
-use Rattle.std.proofs.Common.{◌≡◌, List, vec_items, sym, refl, ap, ◌∙◌, subst}
-use Rattle.lane_yard.specs.Faults.{Fault, Lawful}
-use Rattle.lane_yard.specs.Meaning.{lanes_of, records_of}
-use Rattle.lane_yard.specs.Records.{LanesOf}
+use Rattle.std.proofs.Common.{List, sym, ◌∙◌, subst}
+use Rattle.lane_yard.specs.Faults.{Fault}
 use Rattle.lane_yard.specs.declared.lane.Lane.{Lane}
 use Rattle.yard_file.specs.Lines.{lines_of}
 use Rattle.yard_file.specs.Laying.{lanes_said}
-use Rattle.yard_file.proofs.Laid.{all_kept, fault_kept, laid_kept}
+use Rattle.yard_file.proofs.Laid.{fault_kept, laid_kept}
 use Rattle.yard_file.proofs.files.YardFile.lay.Goals as goal
 
 pub returns-in-Ok : goal.returns-in-Ok

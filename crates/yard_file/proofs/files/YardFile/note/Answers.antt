@@ -1,4 +1,4 @@
-use Rattle.std.proofs.Common.{◌≡◌, List, [], ◌++◌, take, vec_items, sym, refl, ap, ◌∙◌, arith, rules}
+use Rattle.std.proofs.Common.{vec_items, ap, ◌∙◌, arith}
 use Rattle.yard_file.proofs.Noted.{kept_none, refusal_kept}
 use Rattle.yard_file.proofs.files.YardFile.note.Goals as goal
 

@@ -1,6 +1,5 @@
-use Rattle.std.proofs.Common.{◌≡◌, ℕ, List, [], ◌∷◌, ◌++◌, sym, refl, ap, ◌∙◌, subst}
+use Rattle.std.proofs.Common.{[], ◌∷◌, ◌++◌}
 use Rattle.yard_file.proofs.Split.{split_end, split_more}
-use Rattle.yard_file.specs.Files.{HasRead}
 use Rattle.yard_file.proofs.files.YardFile.push.Goals as goal
 
 pub returns-then-byte-eq10 : goal.returns-then-byte-eq10

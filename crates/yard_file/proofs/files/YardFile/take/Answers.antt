@@ -1,4 +1,4 @@
-use Rattle.std.proofs.Common.{◌≡◌, List, ◌++◌, take, vec_items, sym, refl, ap, ◌∙◌, arith, rules}
+use Rattle.std.proofs.Common.{List, ◌++◌, take, vec_items, sym, ap, ◌∙◌, arith, rules}
 use Rattle.lane_yard.specs.declared.lane.Lane.{Lane}
 use Rattle.yard_file.proofs.Noted.{kept_none, none_said}
 use Rattle.yard_file.proofs.files.YardFile.take.Goals as goal
