@@ -45,7 +45,7 @@ fn settle<R: FollowingRule>(
 ) -> Result<u16, JudgeRefusal>
     requires ready { Ready stops.now precedences.now times.now nexts.now }
     requires pages { (length stops.now ≤ length timetable.old) × (length stops.now ≤ length ring.old) }
-    ensures { Settles (Between (R.FollowingRule.gaps rule.now) stops.now times.now nexts.now precedences.now) (length stops.now) (max 36000 R.FollowingRule.largest) (record { timetable = timetable.entry.now; ring = ring.old; timetable_after = timetable.exit.now; ring_after = ring.new }) result }
+    ensures { Settles (Between (R.FollowingRule.gaps rule.now) stops.now times.now nexts.now precedences.now) (length stops.now) (max 36000 R.FollowingRule.largest) (record { timetable = timetable.old; ring = ring.old; timetable_after = timetable.new; ring_after = ring.new }) result }
 {
     let mut lags = [Lag {
         from: 0,
@@ -95,7 +95,7 @@ fn judge_routes<Y: Yard, R: FollowingRule>(
     requires sheet { Consistent stops.now precedences.now }
     requires room { (1024 ≤ length times.old) × (1024 ≤ length nexts.old) }
     requires pages { (length stops.now ≤ length timetable.old) × (length stops.now ≤ length ring.old) }
-    ensures { Routed (Y.Yard.lanes yard.now) (R.FollowingRule.gaps rule.now) (max 36000 R.FollowingRule.largest) stops.now precedences.now (record { timetable = timetable.entry.now; ring = ring.old; timetable_after = timetable.exit.now; ring_after = ring.new }) result }
+    ensures { Routed (Y.Yard.lanes yard.now) (R.FollowingRule.gaps rule.now) (max 36000 R.FollowingRule.largest) stops.now precedences.now (record { timetable = timetable.old; ring = ring.old; timetable_after = timetable.new; ring_after = ring.new }) result }
 {
     let times = &mut times[0..stops.len()];
     let nexts = &mut nexts[0..stops.len()];

@@ -1,6 +1,6 @@
 -- What is kept while arrivals are raised, lag after lag and round after round.
 use Rattle.std.specs.Prelude.{◌≡◌, ℕ, ◌+◌, ◌*◌, ◌^◌, ◌<◌, ◌≤◌, ◌⊎◌, List, length, pos, IfSome, None, Option, slice_index_or}
-use Rattle.std.specs.List.{AllByRecursion as All}
+use Rattle.std.specs.List.{AllByRecursion}
 use Rattle.lags.specs.declared.Lag.{Lag}
 use Rattle.lags.specs.Solved.{at}
 use Rattle.lags.specs.Times.{AtLeast, AtMost, LessThan}
@@ -17,7 +17,7 @@ abbrev pub Kept : (ℕ → ℕ) → Lag → Type 0
 Kept a g = AtLeast (a g.from) g.weight (a g.to)
 
 abbrev pub Keeps : List Lag → (ℕ → ℕ) → Type 0
-Keeps lags a = All (Kept a) lags
+Keeps lags a = AllByRecursion (Kept a) lags
 
 -- v was raised last by the lag g, its parent; `when` has the step of each node's last raise, and a round has `many` steps
 pub record RaisedBy (a when : ℕ → ℕ) (many v : ℕ) (g : Lag) : Type 0 where

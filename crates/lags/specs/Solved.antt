@@ -1,6 +1,6 @@
 -- What the solver answers for a list of lags.
 use Rattle.std.specs.Prelude.{◌≡◌, ℕ, ◌-◌, ◌*◌, ◌<◌, ◌≤◌, List, length, take, drop, ℤ, pos, negsuc, ◌≤ℤ◌, slice_index}
-use Rattle.std.specs.List.{ContainsAt as Has, AllByRecursion as All}
+use Rattle.std.specs.List.{ContainsAt, AllByRecursion}
 use Rattle.lags.specs.declared.Lag.{Lag}
 use Rattle.lags.specs.declared.Outcome.{Outcome}
 use Rattle.lags.specs.declared.Outcome.TheVariants.{Settled, Ring as RingOf, Unfit}
@@ -8,7 +8,7 @@ use Rattle.lags.specs.Ways.{Ring, Solution, Least}
 
 -- the list has a lag of w from s to t
 abbrev pub Listed : List Lag → ℕ → ℕ → ℤ → Type 0
-Listed lags s t w = Has lags (record { from = s; to = t; weight = w })
+Listed lags s t w = ContainsAt lags (record { from = s; to = t; weight = w })
 
 -- the arrival at a node
 abbrev pub at : List ℕ → ℕ → ℕ
@@ -29,12 +29,12 @@ Allowed nodes g = Inside nodes g × Limited g
 pub record Fit (lags : List Lag) (nodes room : ℕ) : Type 0 where
   pub few : nodes ≤ 1024
   pub short : length lags ≤ 3072
-  pub allowed : All (Allowed nodes) lags
+  pub allowed : AllByRecursion (Allowed nodes) lags
   pub wide : nodes ≤ room
 
 -- no weight is above w
 abbrev pub Under : List Lag → ℕ → Type 0
-Under lags w = All (λ g. g.weight ≤ℤ pos w) lags
+Under lags w = AllByRecursion (λ g. g.weight ≤ℤ pos w) lags
 
 -- α has the least solution, and no arrival of it is above the longest way through all nodes
 pub record Earliest (lags : List Lag) (α : List ℕ) : Type 0 where

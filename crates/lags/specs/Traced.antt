@@ -1,17 +1,17 @@
 -- The way back from a node that was raised, along what raised what.
 use Rattle.std.specs.Prelude.{◌≡◌, ℕ, ◌+◌, ◌-◌, ◌*◌, ◌<◌, ◌≤◌, Bool, false, List, [], ◌∷◌, ◌++◌, reverse, length, take, ℤ, pos, ◌+ℤ◌, Decides, count_by, ◌≢◌, slice_index_or}
-use Rattle.std.specs.List.{ContainsAt as Has, AllByRecursion as All}
+use Rattle.std.specs.List.{ContainsAt, AllByRecursion}
 use Rattle.lags.specs.declared.Lag.{Lag}
 use Rattle.lags.specs.Solved.{at}
 use Rattle.lags.specs.Progress.{lag_at, RaisedBy, Progress}
 
 abbrev pub Distinct : List ℕ → Type 0
 Distinct [] = Unit {0}
-Distinct (x ∷ xs) = All (λ y. x ≢ y) xs × Distinct xs
+Distinct (x ∷ xs) = AllByRecursion (λ y. x ≢ y) xs × Distinct xs
 
 -- some lag ends at v
 abbrev pub End : List Lag → ℕ → Type 0
-End lags v = (g : Lag) × Has lags g × (g.to ≡ v)
+End lags v = (g : Lag) × ContainsAt lags g × (g.to ≡ v)
 
 -- the lags end at m nodes: as many as there are marks, and the marked nodes are the ends
 pub record EndCount (lags : List Lag) (m : ℕ) : Type 0 where
@@ -56,7 +56,7 @@ module _ (lags : List Lag) (p : ℕ → ℕ) where
   -- the way back from v, through distinct nodes that were raised
   pub record Traced (a when : ℕ → ℕ) (v : ℕ) (xs : List ℕ) (u : ℕ) : Type 0 where
     pub way : Back v xs u
-    pub raised : All (ByParent a when) xs
+    pub raised : AllByRecursion (ByParent a when) xs
     pub distinct : Distinct xs
 
   -- the way back after an overrun, short enough that u was raised too
@@ -75,7 +75,7 @@ module _ (lags : List Lag) (p : ℕ → ℕ) where
 
 -- the places have for each node one more than where it stands in xs, and 0 for every other
 pub record Placed (xs places : List ℕ) : Type 0 where
-  pub seen : All (λ y. 0 < at places y) xs
+  pub seen : AllByRecursion (λ y. 0 < at places y) xs
   pub stands : (y : ℕ) → 0 < at places y → (at places y ≤ length xs) × (at xs (at places y - 1) ≡ y)
 
 -- the way back from v has come to x; its nodes are the first of an array, and another has their places
@@ -93,4 +93,4 @@ pub record Turned (xs ys : List ℕ) : Type 0 where
   pub rest : List ℕ
   pub splits : xs ≡ front ++ low ∷ rest
   pub turns : ys ≡ low ∷ reverse (rest ++ front)
-  pub least : All (λ x. low ≤ x) xs
+  pub least : AllByRecursion (λ x. low ≤ x) xs

@@ -1,6 +1,6 @@
 // How many nodes are where a lag ends.
 ghost use Rattle.std.specs.Prelude.{◌<◌, ◌≤◌};
-ghost use Rattle.std.specs.List.{AllByRecursion as All};
+ghost use Rattle.std.specs.List.{AllByRecursion};
 ghost use Rattle.lags.specs.Traced.{EndCount};
 
 use crate::Lag;
@@ -8,7 +8,7 @@ use crate::limits::MOST_NODES;
 
 // How many nodes are where a lag ends: no other is ever raised.
 pub(crate) fn count_ends(lags: &[Lag]) -> u16
-    requires { All (λ g. g.to < 1024) lags.now }
+    requires { AllByRecursion (λ g. g.to < 1024) lags.now }
     ensures exact { EndCount lags.now result }
     ensures few { result ≤ 1024 }
 {

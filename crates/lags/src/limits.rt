@@ -1,6 +1,6 @@
 // The limits within which lags are solved.
 ghost use Rattle.std.specs.Prelude.{Decides};
-ghost use Rattle.std.specs.List.{AllByRecursion as All};
+ghost use Rattle.std.specs.List.{AllByRecursion};
 ghost use Rattle.lags.specs.Solved.{Allowed, Fit};
 
 use crate::Lag;
@@ -26,7 +26,7 @@ fn is_allowed(nodes: usize, lag: Lag) -> bool
 
 // Whether each lag is.
 fn are_allowed(nodes: usize, lags: &[Lag]) -> bool
-    ensures { Decides result (All (Allowed nodes) lags.now) }
+    ensures { Decides result (AllByRecursion (Allowed nodes) lags.now) }
 {
     for lag in lags {
         if !is_allowed(nodes, *lag) {

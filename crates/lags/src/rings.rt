@@ -1,6 +1,6 @@
 // The ring that what raised what runs into.
 ghost use Rattle.std.specs.Prelude.{◌≡◌, ℕ, ◌<◌, ◌≤◌, length, take, drop};
-ghost use Rattle.std.specs.List.{AllByRecursion as All};
+ghost use Rattle.std.specs.List.{AllByRecursion};
 ghost use Rattle.lags.specs.Solved.{Inside, Looped, at};
 ghost use Rattle.lags.specs.Traced.{ParentCycle, Overrun, Turned};
 
@@ -10,7 +10,7 @@ use crate::limits::MOST_NODES;
 // Goes back from `start`, from each node to the one that raised it last, until a node comes up again.
 // Gives the nodes from the first time that it came up, in this order.
 fn trace_back<'a>(lags: &[Lag], parents: &[u16], start: u16, nodes: &'a mut [u16]) -> &'a [u16]
-    requires inside { (All (Inside (length parents.now)) lags.now) × (start < length parents.now) }
+    requires inside { (AllByRecursion (Inside (length parents.now)) lags.now) × (start < length parents.now) }
     requires room { (length parents.now ≤ 1024) × (length parents.now ≤ length nodes.old) }
     requires over { Overrun lags.now (at parents.now) start }
     ensures { ParentCycle lags.now (at parents.now) result.now }
@@ -32,7 +32,7 @@ fn trace_back<'a>(lags: &[Lag], parents: &[u16], start: u16, nodes: &'a mut [u16
 fn lowest(nodes: &[u16]) -> usize
     requires { 0 < length nodes.now }
     ensures within { result < length nodes.now }
-    ensures least { All (λ x. at nodes.now result ≤ x) nodes.now }
+    ensures least { AllByRecursion (λ x. at nodes.now result ≤ x) nodes.now }
 {
     let mut low = 0;
     for (i, node) in nodes.iter().enumerate() {
@@ -57,10 +57,10 @@ fn turn(nodes: &[u16], ring: &mut [u16])
 
 // Writes the ring that the way back from `start` runs into, and gives its length.
 pub(crate) fn write_ring(lags: &[Lag], parents: &[u16], start: u16, ring: &mut [u16]) -> u16
-    requires inside { (All (Inside (length parents.now)) lags.now) × ((start < length parents.now) × (length parents.now ≤ 1024)) }
-    requires room { All (Inside (length ring.old)) lags.now }
+    requires inside { (AllByRecursion (Inside (length parents.now)) lags.now) × ((start < length parents.now) × (length parents.now ≤ 1024)) }
+    requires room { AllByRecursion (Inside (length ring.old)) lags.now }
     requires over { Overrun lags.now (at parents.now) start }
-    ensures { (n : ℕ) → All (Inside n) lags.now → Looped lags.now n result ring.old ring.new }
+    ensures { (n : ℕ) → AllByRecursion (Inside n) lags.now → Looped lags.now n result ring.old ring.new }
 {
     let mut nodes = [0u16; MOST_NODES];
     let cycle = trace_back(lags, parents, start, &mut nodes);

@@ -1,6 +1,6 @@
 // Rounds through the lags, which raise arrivals until every lag is kept.
 ghost use Rattle.std.specs.Prelude.{◌≡◌, ℕ, ◌+◌, ◌^◌, ◌<◌, ◌≤◌, length, pos, ◌+ℤ◌, IfSome, if◌then◌else◌, None, MatchOption, int_lt, slice_set};
-ghost use Rattle.std.specs.List.{AllByRecursion as All};
+ghost use Rattle.std.specs.List.{AllByRecursion};
 ghost use Rattle.lags.specs.Progress.{Keeps, Low, Moved, Progress};
 ghost use Rattle.lags.specs.Solved.{Allowed, Earliest, Inside, at};
 ghost use Rattle.lags.specs.Times.{after};
@@ -27,7 +27,7 @@ fn raise(lag: Lag, number: u16, arrivals: &mut [u64], parents: &mut [u16]) -> bo
 
 // Goes through the lags once, and gives the node that was raised last, if any was.
 fn raise_round(lags: &[Lag], arrivals: &mut [u64], parents: &mut [u16]) -> Option<u16>
-    requires allowed { (All (Allowed (length arrivals.old)) lags.now) × (length arrivals.old ≤ length parents.old) }
+    requires allowed { (AllByRecursion (Allowed (length arrivals.old)) lags.now) × (length arrivals.old ≤ length parents.old) }
     requires short { length lags.now ≤ 3072 }
     requires low { Low arrivals.old (2 ^ 59) }
     ensures progress { (base : ℕ) → Progress lags.now base 0 (at arrivals.old) (at parents.old) → Moved lags.now (base + length lags.now) 0 (at arrivals.new) (at parents.new) base result }
@@ -51,7 +51,7 @@ pub(crate) fn settle(
     arrivals: &mut [u64],
     parents: &mut [u16],
 ) -> Option<u16>
-    requires allowed { (All (Allowed (length arrivals.old)) lags.now) × (length arrivals.old ≤ length parents.old) }
+    requires allowed { (AllByRecursion (Allowed (length arrivals.old)) lags.now) × (length arrivals.old ≤ length parents.old) }
     requires short { length lags.now ≤ 3072 }
     requires ends { (EndCount lags.now ends) × (ends ≤ 1024) }
     requires zero { Low arrivals.old 0 }

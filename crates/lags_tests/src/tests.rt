@@ -18,32 +18,33 @@ fn check_settled<const N: usize>(rt: &impl Abort, lags: &[Lag], wanted: [u64; N]
 }
 
 // That the lags between N nodes have a ring of this length, and the rest of the ring page stands.
-fn check_ring<const N: usize>(rt: &impl Abort, lags: &[Lag], wanted: u16) {
+fn check_ring<const N: usize>(rt: &impl Abort, lags: &[Lag], wanted: u16, nodes: &str) {
     assert!(rt; N <= 1024);
     let mut arrivals = [7u64; N];
     let mut page = [9u16; 1024];
     assert_eq!(rt;
         solve(lags, &mut arrivals, &mut page),
-        Outcome::Ring { length: wanted }
+        Outcome::Ring { length: wanted },
+        "{nodes}"
     );
     let length = wanted as usize;
     assert!(rt; length <= 1024);
-    assert!(rt; is_ring(lags, &page[0..length]));
+    assert!(rt; is_ring(lags, &page[0..length]), "{nodes}");
     for number in &page[length..1024] {
-        assert!(rt; *number == 9);
+        assert!(rt; *number == 9, "{nodes}");
     }
 }
 
 // That lags, nodes and room are outside the limits, and both pages stand.
-fn check_unfit<const N: usize, const ROOM: usize>(
-    rt: &impl Abort,
-    lags: &[Lag],
-    why: &str,
-) {
+fn check_unfit<const N: usize, const ROOM: usize>(rt: &impl Abort, lags: &[Lag], why: &str) {
     assert!(rt; N <= 1025 && ROOM <= 1025);
     let mut arrivals = [7u64; N];
     let mut page = [9u16; ROOM];
-    assert_eq!(rt; solve(lags, &mut arrivals, &mut page), Outcome::Unfit, "{why}");
+    assert_eq!(rt;
+        solve(lags, &mut arrivals, &mut page),
+        Outcome::Unfit,
+        "{why}"
+    );
     assert!(rt; arrivals == [7; N], "{why}");
     assert!(rt; page == [9; ROOM], "{why}");
 }
@@ -55,10 +56,14 @@ fn check_ring_sums<const N: usize>(rt: &impl Abort, step: usize, nodes: &str) {
     let mut arrivals = [7u64; N];
     let mut page = [9u16; N];
     fill_ring(&mut lags, step, 0);
-    assert_eq!(rt; solve(&lags, &mut arrivals, &mut page), Outcome::Settled, "{nodes}");
+    assert_eq!(rt;
+        solve(&lags, &mut arrivals, &mut page),
+        Outcome::Settled,
+        "{nodes}"
+    );
     assert!(rt; page == [9; N], "{nodes}");
     fill_ring(&mut lags, step, 1);
-    check_ring::<N>(rt, &lags, N as u16);
+    check_ring::<N>(rt, &lags, N as u16, nodes);
 }
 
 #[test]
@@ -120,7 +125,7 @@ fn a_long_chain_settles_in_the_worst_order(rt: HostRuntime) {
     fill_chain(&mut lags, 0);
     check_settled(&rt, &lags, wanted);
     fill_chain(&mut lags, 1);
-    check_ring::<1000>(&rt, &lags, 1000);
+    check_ring::<1000>(&rt, &lags, 1000, "a chain closed to a ring");
 }
 
 #[test]
@@ -181,7 +186,7 @@ fn random_lists_agree_with_longest_ways(rt: HostRuntime) -> Result<(), Fail> {
                 let Outcome::Ring { length } = outcome else {
                     return Err(Fail::new("a ring was missed"));
                 };
-                check_ring::<NODES>(&rt, &lags, length);
+                check_ring::<NODES>(&rt, &lags, length, "random lags");
                 rings = rings.wrapping_add(1);
             }
         }

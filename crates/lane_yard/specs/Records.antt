@@ -1,6 +1,6 @@
 -- What a list of lanes says, and when it is lawful.
 use Rattle.std.specs.Prelude.{◌≡◌, ℕ, ◌+◌, ◌<◌, ◌≤◌, cond, ◌&&◌, List, [], ◌∷◌, length, get_or, Some, None, Option, ◌==◌, ◌≢◌, slice_index_or}
-use Rattle.std.specs.List.{ContainsAt as Has}
+use Rattle.std.specs.List.{ContainsAt}
 use Rattle.yard.specs.Limits.{LaneWithin}
 use Rattle.lane_yard.specs.declared.lane.Lane.{Lane}
 
@@ -27,7 +27,7 @@ no_lane = lane 0 0 0
 
 -- the answer tells of the lane between two places that stands in the list, or of none
 unfoldable pub Tells : List Lane → ℕ → ℕ → Option ℕ → Type 0
-Tells xs from to answer = (time : ℕ) → (answer ≡ Some time → Has xs (lane from to time)) × (Has xs (lane from to time) → answer ≡ Some time)
+Tells xs from to answer = (time : ℕ) → (answer ≡ Some time → ContainsAt xs (lane from to time)) × (ContainsAt xs (lane from to time) → answer ≡ Some time)
 
 -- these lanes are those of the list: each that stands in it, and no other
 abbrev pub LanesOf : List Lane → (ℕ → ℕ → Option ℕ) → Type 0

@@ -15,7 +15,7 @@ fn stands_after(records: &[Lane], index: usize, from: u16, to: u16) -> bool
     is_before(&records[index], &Lane { from, to, time: 0 })
 }
 
-// A part of the records, `r.0` to `r.1`, at most eight of them, such that no other record leads from `from` to `to`.
+// A part of the records, `result.0` to `result.1`, at most eight of them, such that no other record leads from `from` to `to`.
 fn narrow(records: &[Lane], from: u16, to: u16) -> (usize, usize)
     requires { Rising records.now }
     ensures around { Around records.now from to result.0 result.1 }

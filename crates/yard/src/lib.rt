@@ -41,12 +41,12 @@ pub trait FollowingRule {
     fn gap(&self, from: u16, to: u16, time: u16) -> u32
         ensures { result ≡ gaps self.now from to time };
 
-    // LARGEST_GAP names it.
+    // LARGEST_GAP names that number.
     ghost named: { Self.Largest.Constant.value ≡ largest };
 
-    // It is at most 100,000.
+    // The largest gap is at most 100,000.
     ghost small: { largest ≤ 100000 };
 
-    // No gap of a lane is above it.
+    // No gap of a lane is above the largest.
     ghost bounded: { (s : Self) (from to time : ℕ) → 1 ≤ time → time ≤ 36000 → gaps s from to time ≤ largest };
 }
