@@ -1,6 +1,6 @@
 // A ring of waiting, stop by stop.
-use crate::lags::lag_between;
 use crate::records::Records;
+use crate::sheet_lags::lag_between;
 use crate::text::Counted;
 use lane_yard::yards::LaneYard;
 use lines::entry::Rule;

@@ -1,5 +1,5 @@
 use Rattle.std.proofs.Common.{rules}
-use Rattle.explain.proofs.lags.waiting_lag.Goals as goal
+use Rattle.explain.proofs.sheet_lags.waiting_lag.Goals as goal
 
 pub returns : goal.returns
 returns c = record {
