@@ -6,7 +6,7 @@ set -euo pipefail
 cd "$(dirname -- "$0")/.."
 kit=$(dirname -- "$(rt doc)")
 mkdir -p target
-(cd crates/yardjudge && rt run) >target/bench.log 2>&1
+(cd crates/yardjudge && rt run </dev/null) >target/bench.log 2>&1
 (cd crates/bench_export && rt lib) >>target/bench.log 2>&1
 rustc --edition 2024 -C opt-level=3 bench/main.rs -L crates/bench_export/out -l static=bench_export -L "$kit/c" -l static=libc_c -l static=os_c -o target/bench
 g++ -std=c++17 -O2 bench/plain.cpp -o target/plain_cpp

@@ -15,7 +15,7 @@ if grep -qE '^rt: ok.*, [1-9][0-9]* bad' "$log"; then
 fi
 
 # The program as it is built, from the folder of each history.
-(cd crates/yardjudge && rt run) > "$log.run" 2>&1 || { cat "$log.run"; exit 1; }
+(cd crates/yardjudge && rt run < /dev/null) > "$log.run" 2>&1 || { cat "$log.run"; exit 1; }
 rm -f "$log.run"
 program=$PWD/crates/yardjudge/out/yardjudge
 for folder in tests/data/*/; do

@@ -1,5 +1,5 @@
 // Who goes first where two routes meet.
-ghost use Rattle.std.specs.Prelude.{◌≡◌, ℕ, ◌<◌, ◌≤◌, false, ◌&&◌, ◌||◌, ltb, length, if◌then◌else◌, Some, None, MatchOption, MatchResult, ◌==◌, nat_lt, slice_index_or};
+ghost use Rattle.std.specs.Prelude.{◌≡◌, ℕ, ◌<◌, ◌≤◌, false, ◌&&◌, ◌||◌, length, if◌then◌else◌, Some, None, MatchOption, MatchResult, ◌==◌, nat_lt, slice_index_or};
 ghost use Rattle.sheet.specs.Records.{no_stop};
 ghost use Rattle.sheet.specs.Tables.{Linked, PrecedencesInside, StopsInside};
 ghost use Rattle.judge.specs.Chains.{Chained};
@@ -118,7 +118,7 @@ fn head_on_at(
 
 // The lower of two pairs, by the first number and then by the second.
 fn lower(a: (usize, usize), b: (usize, usize)) -> (usize, usize)
-    ensures { result ≡ (if ltb b.0 a.0 || (b.0 == a.0 && nat_lt b.1 a.1) then b else a) }
+    ensures { result ≡ (if nat_lt b.0 a.0 || (b.0 == a.0 && nat_lt b.1 a.1) then b else a) }
 {
     if b.0 < a.0 || (b.0 == a.0 && b.1 < a.1) {
         b

@@ -18,20 +18,20 @@ fn check_settled<const N: usize>(rt: &impl Abort, lags: &[Lag], wanted: [u64; N]
 }
 
 // That the lags between N nodes have a ring of this length, and the rest of the ring page stands.
-fn check_ring<const N: usize>(rt: &impl Abort, lags: &[Lag], wanted: u16, nodes: &str) {
+fn check_ring<const N: usize>(rt: &impl Abort, lags: &[Lag], wanted: u16, case: &str) {
     assert!(rt; N <= 1024);
     let mut arrivals = [7u64; N];
     let mut page = [9u16; 1024];
     assert_eq!(rt;
         solve(lags, &mut arrivals, &mut page),
         Outcome::Ring { length: wanted },
-        "{nodes}"
+        "{case}"
     );
     let length = wanted as usize;
     assert!(rt; length <= 1024);
-    assert!(rt; is_ring(lags, &page[0..length]), "{nodes}");
+    assert!(rt; is_ring(lags, &page[0..length]), "{case}");
     for number in &page[length..1024] {
-        assert!(rt; *number == 9, "{nodes}");
+        assert!(rt; *number == 9, "{case}");
     }
 }
 

@@ -1,5 +1,5 @@
 // Reading a line.
-ghost use Rattle.std.specs.Prelude.{◌≡◌, ℕ, ◌<◌, ◌≤◌, List, [], ◌∷◌, length, take, if◌then◌else◌, Ok, Err, nat_eq};
+ghost use Rattle.std.specs.Prelude.{◌≡◌, ℕ, ◌<◌, ◌≤◌, List, [], ◌∷◌, length, take, if◌then◌else◌, Ok, Err, ◌==◌};
 ghost use Rattle.lines.specs.declared.refusal.LineRefusal.TheVariants.{BadDigit, BadLength, BadRule};
 ghost use Rattle.lines.specs.Digits.{FirstBad};
 ghost use Rattle.lines.specs.Entries.{has, Says};
@@ -69,7 +69,7 @@ fn read_fields(bytes: &[u8]) -> Result<Entry, LineRefusal>
 
 // What bytes say in an input.
 fn read_bytes(bytes: &[u8], input: Input) -> Result<Entry, LineRefusal>
-    ensures { result ≡ (if nat_eq (length bytes.now) 0 then Err BadLength else checked (unknown_kind input bytes.now ∷ wrong_length bytes.now ∷ bad_rule bytes.now ∷ []) (entry_of bytes.now)) }
+    ensures { result ≡ (if length bytes.now == 0 then Err BadLength else checked (unknown_kind input bytes.now ∷ wrong_length bytes.now ∷ bad_rule bytes.now ∷ []) (entry_of bytes.now)) }
 {
     let [kind, ..] = bytes else {
         return Err(LineRefusal::BadLength);

@@ -41,7 +41,7 @@ pub trait FollowingRule {
     fn gap(&self, from: u16, to: u16, time: u16) -> u32
         ensures { result ≡ gaps self.now from to time };
 
-    // LARGEST_GAP names that number.
+    // LARGEST_GAP names the number `largest`.
     ghost named: { Self.Largest.Constant.value ≡ largest };
 
     // The largest gap is at most 100,000.
