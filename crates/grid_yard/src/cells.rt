@@ -17,20 +17,19 @@ pub(crate) fn is_closed(words: &[u64], cell: u16) -> bool
     requires { cell < 64 * length words.now }
     ensures { result ≡ closed_cell words.now cell }
 {
-    is_set(words[(cell / 64) as usize], cell % 64)
+    is_set(words[usize::from(cell / 64)], cell % 64)
 }
 
 // Whether the two numbers differ by one.
 fn is_adjacent(a: u16, b: u16) -> bool
-    requires { (a ≤ 4095) × (b ≤ 4095) }
     ensures { result ≡ adjacent a b }
 {
-    a + 1 == b || b + 1 == a
+    a.abs_diff(b) == 1
 }
 
 // The travel time between two cells of the grid, where they touch by a side.
 pub(crate) fn step_time(plan: Plan, from: u16, to: u16) -> Option<u16>
-    requires { (1 ≤ plan.columns) × (from ≤ 4095) × (to ≤ 4095) }
+    requires { 1 ≤ plan.columns }
     ensures { result ≡ step plan from to }
 {
     let (row, column) = (from / plan.columns, from % plan.columns);

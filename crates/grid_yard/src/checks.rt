@@ -17,10 +17,10 @@ pub(crate) fn words_needed(plan: Plan) -> usize
 pub(crate) fn check_grid(plan: Plan, closed: &[u64]) -> Result<(), GridRefusal>
     ensures { MatchResult result (λ _. Lawful plan closed.now) (λ e. Fault plan closed.now e) }
 {
-    if plan.rows < 1 || plan.rows > 64 || plan.columns < 1 || plan.columns > 64 {
+    if !(1..=64).contains(&plan.rows) || !(1..=64).contains(&plan.columns) {
         return Err(GridRefusal::BadSize);
     }
-    if plan.along < 1 || plan.along > 36000 || plan.across < 1 || plan.across > 36000 {
+    if !(1..=36000).contains(&plan.along) || !(1..=36000).contains(&plan.across) {
         return Err(GridRefusal::BadTime);
     }
     if closed.len() < words_needed(plan) {

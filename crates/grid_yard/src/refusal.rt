@@ -13,14 +13,12 @@ pub enum GridRefusal {
 }
 
 impl GridRefusal {
-    // The number of the refusal. It tells nothing else.
+    // The number of the refusal. It tells nothing else. A match over all cases, so that a new one must be given its number.
     pub fn number(&self) -> u8
         ensures { result ≡ number_of self.now }
     {
         match self {
-            GridRefusal::BadSize => 21,
-            GridRefusal::BadTime => 21,
-            GridRefusal::TooFewWords => 21,
+            GridRefusal::BadSize | GridRefusal::BadTime | GridRefusal::TooFewWords => 21,
         }
     }
 }

@@ -1,8 +1,9 @@
 // The grid yard.
-ghost use Rattle.std.specs.Prelude.{◌*◌, ◌≤◌, vec_capacity};
+ghost use Rattle.std.specs.Prelude.{◌*◌, ◌≤◌};
 ghost use Rattle.grid_yard.specs.Faults.{Covered, Timed};
 
 use crate::plan::Plan;
+use bounded::BoundedVec;
 
 mod calls;
 
@@ -12,9 +13,8 @@ mod calls;
 #[derive(Drop)]
 pub struct GridYard {
     plan: Plan,
-    closed: Vec<u64>,
-    ghost room: { 64 ≤ vec_capacity closed },
+    closed: BoundedVec<u64, 64>,
     ghost sized: { (plan.rows ≤ 64) × (plan.columns ≤ 64) × (plan.rows * plan.columns ≤ 4096) },
     ghost timed: { Timed plan },
-    ghost covered: { Covered plan closed.items },
+    ghost covered: { Covered plan closed },
 }

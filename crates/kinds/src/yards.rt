@@ -20,7 +20,7 @@ impl Yard for AnyYard {
     ghost lanes = { lanes_of };
 
     ghost limited = { elim [
-      | Lanes yard ↦ λ from to. time_within _ from to yard.within
+      | Lanes yard ↦ λ from to. time_within _ from to yard.lawful.1.0
       | Grid yard ↦ λ from to. Prim.search rules
     ] };
 

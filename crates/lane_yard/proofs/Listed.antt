@@ -6,18 +6,15 @@ use Rattle.lane_yard.specs.Records.{lane, no_lane, time_of, Rising, Tells, Lanes
 use Rattle.lane_yard.specs.Times.{way}
 use Rattle.lane_yard.proofs.Rises.{only}
 
-same_lane : (l : Lane) (f t z : ℕ) → l.from ≡ f → l.to ≡ t → l.time ≡ z → l ≡ lane f t z
-same_lane l f t z p q r = ap (λ a. lane a l.to l.time) p ∙ ap (λ b. lane f b l.time) q ∙ ap (lane f t) r
-
 -- what is answered stands in the list
 has_lane : (xs : List Lane) (f t z : ℕ) → time_of xs f t ≡ Some z → Has xs (lane f t z)
-has_lane [] f t z e = let n : ◌≡◌ {A = ℕ} 0 1 = cc in absurd (omega arith)
+has_lane [] f t z e = grind arith
 has_lane (l ∷ ls) f t z e =
     let C : Bool → Option ℕ = λ b. cond b (Some l.time) (time_of ls f t) in
     ⊎_elim
     (λ w.
     let s : Some l.time ≡ Some z = sym (ap C w.0) ∙ e in
-    (0, omega arith, λ d. same_lane l f t z w.1 w.2 (cc)))
+    (0, omega arith, λ d. rw (w.1, w.2) (cc)))
     (λ w.
     let h = has_lane ls f t z (sym (ap C w) ∙ e) in
     (suc h.0, omega arith, h.2))

@@ -44,10 +44,3 @@ Rising xs = (k : ℕ) → k + 1 < length xs → Before (slice_index_or xs k no_l
 -- no lane from index `low` to below index `high` joins the two places
 abbrev pub Absent : List Lane → ℕ → ℕ → ℕ → ℕ → Type 0
 Absent xs from to low high = (k : ℕ) → low ≤ k → k < high → (get_or xs k no_lane).from ≡ from → (get_or xs k no_lane).to ≢ to
-
--- a part of the list outside of which no lane joins the two places
-pub record Around (xs : List Lane) (from to low high : ℕ) : Type 0 where
-  pub ordered : low ≤ high
-  pub inside : high ≤ length xs
-  pub none_before : Absent xs from to 0 low
-  pub none_after : Absent xs from to high (length xs)

@@ -1,16 +1,10 @@
 -- What `time_of` answers.
-use Rattle.std.specs.Prelude.{◌≡◌, ℕ, zero, suc, ◌<◌, Bool, true, false, cond, ◌&&◌, ◌⊎◌, List, [], ◌∷◌, length, IfSome, Some, None, Option, ◌==◌, ◌≢◌, slice_index_or, refl}
-use Rattle.std.proofs.Common.{sym, ap, subst, ◌∙◌, ⊎_elim, arith}
+use Rattle.std.specs.Prelude.{◌≡◌, ℕ, zero, suc, ◌<◌, true, false, ◌&&◌, ◌⊎◌, List, [], ◌∷◌, length, IfSome, Some, None, ◌==◌, slice_index_or, refl}
+use Rattle.std.proofs.Common.{arith}
 use Rattle.std.proofs.lemmas.Bool.Decides.{nat_tests}
 use Rattle.yard.specs.Limits.{LaneWithin}
 use Rattle.lane_yard.specs.declared.lane.Lane.{Lane}
 use Rattle.lane_yard.specs.Records.{no_lane, time_of, Within, AllWithin, Absent}
-
-hit : (a b f t : ℕ) → a ≡ f → b ≡ t → (a == f && b == t) ≡ true
-hit a b f t p q = grind (arith, nat_tests)
-
-miss : (a b f t : ℕ) → (a ≡ f → b ≢ t) → (a == f && b == t) ≡ false
-miss a b f t n = grind (arith, nat_tests)
 
 pub way : (a b f t : ℕ) → (((a == f && b == t) ≡ true) × (a ≡ f) × (b ≡ t)) ⊎ ((a == f && b == t) ≡ false)
 way a b f t = grind (arith, nat_tests)
@@ -18,25 +12,21 @@ way a b f t = grind (arith, nat_tests)
 -- at the first lane that joins the places, its time
 pub time_at : (xs : List Lane) (f t i : ℕ) → i < length xs → (slice_index_or xs i no_lane).from ≡ f → (slice_index_or xs i no_lane).to ≡ t → Absent xs f t 0 i → time_of xs f t ≡ Some (slice_index_or xs i no_lane).time
 time_at [] f t i lt p q free = absurd (omega arith)
-time_at (l ∷ ls) f t zero lt p q free = ap (λ b. cond b (Some l.time) (time_of ls f t)) (hit l.from l.to f t p q)
+time_at (l ∷ ls) f t zero lt p q free = grind (arith, nat_tests)
 time_at (l ∷ ls) f t (suc i) lt p q free =
-    ap (λ b. cond b (Some l.time) (time_of ls f t)) (miss l.from l.to f t (free 0 (omega arith) (omega arith)))
-    ∙ time_at ls f t i (omega arith) p q (λ k z h. free (suc k) (omega arith) (omega arith))
+    let later = time_at ls f t i (omega arith) p q (λ k z h. free (suc k) (omega arith) (omega arith)) in
+    grind (arith, nat_tests, free 0)
 
 pub time_none : (xs : List Lane) (f t : ℕ) → Absent xs f t 0 (length xs) → time_of xs f t ≡ None
 time_none [] f t free = refl
 time_none (l ∷ ls) f t free =
-    ap (λ b. cond b (Some l.time) (time_of ls f t)) (miss l.from l.to f t (free 0 (omega arith) (omega arith)))
-    ∙ time_none ls f t (λ k z h. free (suc k) (omega arith) (omega arith))
+    let later = time_none ls f t (λ k z h. free (suc k) (omega arith) (omega arith)) in
+    grind (arith, nat_tests, free 0)
 
 -- what lanes within the limits answer is within the limits
 pub time_within : (xs : List Lane) (f t : ℕ) → AllWithin xs → IfSome (time_of xs f t) (λ n. LaneWithin f t n)
 time_within [] f t s = tt
 time_within (l ∷ ls) f t s =
     let here : Within l = s 0 (omega arith) in
-    let P : Option ℕ → Type 0 = λ o. IfSome o (λ n. LaneWithin f t n) in
-    let C : Bool → Option ℕ = λ b. cond b (Some l.time) (time_of ls f t) in
-    ⊎_elim
-    (λ w. let k : LaneWithin f t l.time = omega (arith, w.1, w.2) in subst P (sym (ap C w.0)) k)
-    (λ w. subst P (sym (ap C w)) (time_within ls f t (λ k h. s (suc k) (omega arith))))
-    (way l.from l.to f t)
+    let later = time_within ls f t (λ k h. s (suc k) (omega arith)) in
+    grind (arith, nat_tests)

@@ -4,5 +4,4 @@
 mod checks;
 pub mod lane;
 pub mod refusal;
-mod search;
 pub mod yards;

@@ -13,7 +13,7 @@ pub enum LayRefusal {
 }
 
 impl LayRefusal {
-    // The number of the refusal.
+    // The number of the refusal. A match: the cases carry what they tell, so they have no numbers of their own.
     pub fn number(&self) -> u8
         ensures { result ≡ number_of self.now }
     {
@@ -29,8 +29,7 @@ impl LayRefusal {
         ensures { result ≡ told_by self.now }
     {
         match *self {
-            LayRefusal::BadLane { index } => index,
-            LayRefusal::NotRising { index } => index,
+            LayRefusal::BadLane { index } | LayRefusal::NotRising { index } => index,
             LayRefusal::TooManyLanes => 0,
         }
     }

@@ -1,8 +1,8 @@
 // The lane yard.
-ghost use Rattle.std.specs.Prelude.{◌≤◌, length, vec_capacity};
-ghost use Rattle.lane_yard.specs.Records.{AllWithin, Rising};
+ghost use Rattle.lane_yard.specs.Faults.{Lawful};
 
 use crate::lane::Lane;
+use bounded::BoundedVec;
 
 mod calls;
 
@@ -10,9 +10,6 @@ mod calls;
 // Memory for the most that it may hold is taken when it is made, so that laying never wants memory.
 #[derive(Drop)]
 pub struct LaneYard {
-    records: Vec<Lane>,
-    ghost room: { 8192 ≤ vec_capacity records },
-    ghost few: { length records.items ≤ 8192 },
-    ghost within: { AllWithin records.items },
-    ghost rising: { Rising records.items },
+    records: BoundedVec<Lane, 8192>,
+    ghost lawful: { Lawful records },
 }

@@ -5,7 +5,7 @@ ghost use Rattle.yard.specs.Refusals.{number_of};
 #[derive(Clone, Copy, PartialEq, Eq, Debug)]
 pub enum GapRefusal {
     // The gap is above 36,000 ticks.
-    GapTooLong,
+    GapTooLong = 25,
 }
 
 impl GapRefusal {
@@ -13,8 +13,6 @@ impl GapRefusal {
     pub fn number(&self) -> u8
         ensures { result ≡ number_of self.now }
     {
-        match self {
-            GapRefusal::GapTooLong => 25,
-        }
+        *self as u8
     }
 }

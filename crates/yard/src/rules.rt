@@ -1,25 +1,21 @@
-// The three following rules.
+// The three following rules, and any of them as one type. Each impl proves its two laws in a line of its own: they differ
+// in constant and meaning.
 ghost use Rattle.std.specs.Prelude.{◌≡◌, ◌-◌, ◌<◌, ◌≤◌, MatchResult};
 ghost use Rattle.std.proofs.Common.{rules};
 
 use crate::FollowingRule;
-use crate::constant::Exactly;
 use crate::refusal::GapRefusal;
 
 // Full lane: the place may be reached in the tick after the carrier that left it reaches the other end.
-#[derive(Clone, Copy)]
+#[derive(Clone, Copy, PartialEq, Eq, Debug)]
 pub struct FullLane;
 
 impl FollowingRule for FullLane {
-    type Largest = Exactly<36000>;
+    const LARGEST_GAP: u32 = 36000;
 
-    const LARGEST_GAP: Exactly<36000> = Exactly { number: 36000 };
-
-    ghost largest = { 36000 };
+    ghost LARGEST_GAP = { 36000 };
 
     ghost gaps = { λ _ _ _ time. time };
-
-    ghost named = { Prim.search rules };
 
     ghost small = { Prim.search rules };
 
@@ -33,19 +29,15 @@ impl FollowingRule for FullLane {
 }
 
 // Lane less one: the place may be reached in the tick in which the carrier that left it reaches the other end.
-#[derive(Clone, Copy)]
+#[derive(Clone, Copy, PartialEq, Eq, Debug)]
 pub struct LaneLessOne;
 
 impl FollowingRule for LaneLessOne {
-    type Largest = Exactly<35999>;
+    const LARGEST_GAP: u32 = 35999;
 
-    const LARGEST_GAP: Exactly<35999> = Exactly { number: 35999 };
-
-    ghost largest = { 35999 };
+    ghost LARGEST_GAP = { 35999 };
 
     ghost gaps = { λ _ _ _ time. time - 1 };
-
-    ghost named = { Prim.search rules };
 
     ghost small = { Prim.search rules };
 
@@ -59,7 +51,7 @@ impl FollowingRule for LaneLessOne {
 }
 
 // Fixed gap: the same number of ticks on every lane, 0 to 36,000.
-#[derive(Clone, Copy)]
+#[derive(Clone, Copy, PartialEq, Eq, Debug)]
 pub struct FixedGap {
     ticks: u16,
     ghost short: { ticks ≤ 36000 },
@@ -84,24 +76,33 @@ impl FixedGap {
     pub fn set(&mut self, ticks: u16) -> Result<(), GapRefusal>
         ensures { MatchResult result (λ _. (ticks ≤ 36000) × (self.new.ticks ≡ ticks)) (λ e. (36000 < ticks) × (e ≡ GapRefusal.GapTooLong) × (self.new ≡ self.old)) }
     {
-        if ticks > 36000 {
-            return Err(GapRefusal::GapTooLong);
-        }
-        *self = FixedGap { ticks };
+        *self = FixedGap::try_from(ticks)?;
         Ok(())
     }
 }
 
+// A gap of so many ticks. More than 36,000 are refused.
+impl TryFrom<u16> for FixedGap {
+    ghost use Rattle.yard.specs.declared.refusal.GapRefusal.TheVariants.{GapTooLong};
+
+    type Error = GapRefusal;
+
+    ghost try_from_gives = { λ ticks r. MatchResult r (λ s. (ticks ≤ 36000) × (s.ticks ≡ ticks)) (λ e. (36000 < ticks) × (e ≡ GapTooLong)) };
+
+    fn try_from(ticks: u16) -> Result<FixedGap, GapRefusal> {
+        if ticks > 36000 {
+            return Err(GapRefusal::GapTooLong);
+        }
+        Ok(FixedGap { ticks })
+    }
+}
+
 impl FollowingRule for FixedGap {
-    type Largest = Exactly<36000>;
+    const LARGEST_GAP: u32 = 36000;
 
-    const LARGEST_GAP: Exactly<36000> = Exactly { number: 36000 };
-
-    ghost largest = { 36000 };
+    ghost LARGEST_GAP = { 36000 };
 
     ghost gaps = { λ s _ _ _. s.ticks };
-
-    ghost named = { Prim.search rules };
 
     ghost small = { Prim.search rules };
 
@@ -111,5 +112,37 @@ impl FollowingRule for FixedGap {
         ensures { result ≡ self.now.ticks }
     {
         u32::from(self.ticks)
+    }
+}
+
+// Any of the following rules.
+#[derive(Clone, Copy, PartialEq, Eq, Debug)]
+pub enum AnyRule {
+    FullLane,
+    LaneLessOne,
+    Fixed { gap: FixedGap },
+}
+
+impl FollowingRule for AnyRule {
+    ghost use Rattle.yard.specs.Rules.{gaps_of};
+
+    const LARGEST_GAP: u32 = 36000;
+
+    ghost LARGEST_GAP = { 36000 };
+
+    ghost gaps = { gaps_of };
+
+    ghost small = { Prim.search rules };
+
+    ghost bounded = { Prim.search rules };
+
+    fn gap(&self, from: u16, to: u16, time: u16) -> u32
+        ensures { result ≡ gaps_of self.now from to time }
+    {
+        match self {
+            AnyRule::FullLane => FullLane.gap(from, to, time),
+            AnyRule::LaneLessOne => LaneLessOne.gap(from, to, time),
+            AnyRule::Fixed { gap } => gap.gap(from, to, time),
+        }
     }
 }

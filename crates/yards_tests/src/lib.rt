@@ -11,9 +11,8 @@ mod tests {
     use lane_yard::refusal::LayRefusal;
     use lane_yard::yards::LaneYard;
     use std::test::Fail;
-    use yard::constant::Constant;
     use yard::refusal::GapRefusal;
-    use yard::rules::{FixedGap, FullLane, LaneLessOne};
+    use yard::rules::{AnyRule, FixedGap, FullLane, LaneLessOne};
     use yard::{FollowingRule, Yard};
 
     fn lane(from: u16, to: u16, time: u16) -> Lane {
@@ -202,13 +201,13 @@ mod tests {
         let mut yard = GridYard::new(rt.alloc())?;
         assert_eq!(rt; yard.set_out(plan(1, 64, 3, 5), &[0]), Ok(()));
         for cell in 0..64 {
-            let time = if cell < 63 { Some(3) } else { None };
+            let time = (cell < 63).then_some(3);
             assert_eq!(rt; yard.travel_time(cell, cell + 1), time);
             assert_eq!(rt; yard.travel_time(cell + 1, cell), time);
         }
         assert_eq!(rt; yard.set_out(plan(64, 1, 3, 5), &[0]), Ok(()));
         for cell in 0..64 {
-            let time = if cell < 63 { Some(5) } else { None };
+            let time = (cell < 63).then_some(5);
             assert_eq!(rt; yard.travel_time(cell, cell + 1), time);
             assert_eq!(rt; yard.travel_time(cell + 1, cell), time);
         }
@@ -216,8 +215,8 @@ mod tests {
         for row in 0..64u16 {
             for column in 0..64u16 {
                 let cell = row * 64 + column;
-                let right = if column < 63 { Some(3) } else { None };
-                let below = if row < 63 { Some(5) } else { None };
+                let right = (column < 63).then_some(3);
+                let below = (row < 63).then_some(5);
                 assert_eq!(rt; yard.travel_time(cell, cell + 1), right);
                 assert_eq!(rt; yard.travel_time(cell + 1, cell), right);
                 assert_eq!(rt; yard.travel_time(cell, cell + 64), below);
@@ -268,11 +267,11 @@ mod tests {
     fn rules(rt: HostRuntime) {
         assert_eq!(rt; FullLane.gap(1, 2, 1), 1);
         assert_eq!(rt; FullLane.gap(1, 2, 36000), 36000);
-        assert_eq!(rt; FullLane::LARGEST_GAP.get(), 36000);
+        assert_eq!(rt; FullLane::LARGEST_GAP, 36000);
         assert_eq!(rt; LaneLessOne.gap(1, 2, 1), 0);
         assert_eq!(rt; LaneLessOne.gap(1, 2, 36000), 35999);
-        assert_eq!(rt; LaneLessOne::LARGEST_GAP.get(), 35999);
-        assert_eq!(rt; FixedGap::LARGEST_GAP.get(), 36000);
+        assert_eq!(rt; LaneLessOne::LARGEST_GAP, 35999);
+        assert_eq!(rt; FixedGap::LARGEST_GAP, 36000);
         let mut fixed = FixedGap::new();
         assert_eq!(rt; fixed.gap(1, 2, 36000), 0);
         let cases = [
@@ -287,6 +286,27 @@ mod tests {
             assert_eq!(rt; fixed.gap(1, 2, 1), gap);
             assert_eq!(rt; u32::from(fixed.ticks()), gap);
         }
+    }
+
+    #[test]
+    fn gaps_of_any_rule(rt: HostRuntime) -> Result<(), GapRefusal> {
+        let rules = [
+            (AnyRule::FullLane, 9),
+            (AnyRule::LaneLessOne, 8),
+            (
+                AnyRule::Fixed {
+                    gap: FixedGap::try_from(36000)?,
+                },
+                36000,
+            ),
+        ];
+        for (rule, gap) in rules {
+            assert_eq!(rt; rule.gap(1, 2, 9), gap);
+        }
+        let refused = FixedGap::try_from(36001);
+        assert_eq!(rt; refused, Err(GapRefusal::GapTooLong));
+        assert_eq!(rt; AnyRule::LARGEST_GAP, 36000);
+        Ok(())
     }
 
     #[test]

@@ -1,7 +1,7 @@
 // What a grid yard can be asked.
-ghost use Rattle.std.specs.Prelude.{◌≡◌, ℕ, take, IfOk, None, Err, MatchResult};
+ghost use Rattle.std.specs.Prelude.{◌≡◌, ℕ, IfOk, None, Err, MatchResult};
 ghost use Rattle.grid_yard.specs.Cells.{LanesOf};
-ghost use Rattle.grid_yard.specs.Faults.{Fault, Lawful, needed};
+ghost use Rattle.grid_yard.specs.Faults.{Fault, Lawful};
 ghost use Rattle.grid_yard.specs.Meaning.{lanes_of};
 ghost use Rattle.grid_yard.specs.Times.{open_cell};
 ghost use Rattle.std.proofs.Common.{rules};
@@ -11,6 +11,7 @@ use crate::checks::{check_grid, words_needed};
 use crate::plan::Plan;
 use crate::refusal::GridRefusal;
 use crate::yards::GridYard;
+use bounded::BoundedVec;
 use std::alloc::{AllocError, Global};
 use yard::Yard;
 
@@ -19,7 +20,7 @@ impl GridYard {
     pub fn new(heap: Global) -> Result<GridYard, AllocError>
         ensures { IfOk result (λ s. (a b : ℕ) → lanes_of s a b ≡ None) }
     {
-        let closed = Vec::with_capacity(heap, 64)?;
+        let closed = BoundedVec::new(heap)?;
         Ok(GridYard {
             plan: Plan {
                 rows: 0,
@@ -38,27 +39,16 @@ impl GridYard {
         ensures exact { (e : GridRefusal) → Fault plan closed.now e → result ≡ Err e }
     {
         check_grid(plan, closed)?;
-        self.replace(plan, closed);
+        self.closed.replace(&closed[..words_needed(plan)]).unwrap();
+        self.plan = plan;
         Ok(())
-    }
-
-    // Puts this grid in place of the old one, with the words that its cells need.
-    fn replace(&mut self, plan: Plan, words: &[u64])
-        requires { Lawful plan words.now }
-        ensures { (self.new.plan ≡ plan) × (self.new.closed.items ≡ take (needed plan) words.now) }
-    {
-        self.closed.clear();
-        match self.closed.extend_from_slice(&words[0..words_needed(plan)]) {
-            Ok(()) => self.plan = plan,
-            Err(_) => unreachable(),
-        }
     }
 
     // Whether the cell is on the grid and not closed.
     fn is_open(&self, cell: u16) -> bool
-        ensures { result ≡ open_cell self.now.plan self.now.closed.items cell }
+        ensures { result ≡ open_cell self.now.plan self.now.closed cell }
     {
-        cell < self.plan.rows * self.plan.columns && !is_closed(&self.closed, cell)
+        cell < self.plan.rows * self.plan.columns && !is_closed(self.closed.as_slice(), cell)
     }
 }
 

@@ -8,8 +8,8 @@ ghost use Rattle.lane_yard.specs.Times.{time_within};
 use crate::checks::check_lanes;
 use crate::lane::Lane;
 use crate::refusal::LayRefusal;
-use crate::search::time_between;
 use crate::yards::LaneYard;
+use bounded::BoundedVec;
 use std::alloc::{AllocError, Global};
 use yard::Yard;
 
@@ -18,7 +18,7 @@ impl LaneYard {
     pub fn new(heap: Global) -> Result<LaneYard, AllocError>
         ensures { IfOk result (λ s. (records_of s ≡ []) × ((a b : ℕ) → lanes_of s a b ≡ None)) }
     {
-        let records = Vec::with_capacity(heap, 8192)?;
+        let records = BoundedVec::new(heap)?;
         Ok(LaneYard { records })
     }
 
@@ -36,32 +36,24 @@ impl LaneYard {
         ensures exact { (e : LayRefusal) → Fault lanes.now e → result ≡ Err e }
     {
         check_lanes(lanes)?;
-        self.replace(lanes);
+        self.records.replace(lanes).unwrap();
         Ok(())
-    }
-
-    // Puts these lanes in place of the old ones.
-    fn replace(&mut self, lanes: &[Lane])
-        requires { Lawful lanes.now }
-        ensures { records_of self.new ≡ lanes.now }
-    {
-        self.records.clear();
-        match self.records.extend_from_slice(lanes) {
-            Ok(()) => {}
-            Err(_) => unreachable(),
-        }
     }
 }
 
 impl Yard for LaneYard {
     ghost lanes = { lanes_of };
 
-    ghost limited = { λ s from to. time_within _ from to s.within };
+    ghost limited = { λ s from to. time_within _ from to s.lawful.1.0 };
 
     fn travel_time(&self, from: u16, to: u16) -> Option<u16>
         ensures value { result ≡ lanes_of self.now from to }
         ensures tells { Tells (records_of self.now) from to result }
     {
-        time_between(self.lanes(), from, to)
+        let lanes = self.lanes();
+        lanes
+            .binary_search_by_key(&(from, to), |lane| lane.places())
+            .ok()
+            .map(|index| lanes[index].time)
     }
 }

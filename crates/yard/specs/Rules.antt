@@ -1,7 +1,7 @@
 -- The gaps of any of the rules.
 use Rattle.std.specs.Prelude.{ℕ, ◌-◌}
-use Rattle.kinds.specs.declared.rules.AnyRule.{AnyRule}
-use Rattle.kinds.specs.declared.rules.AnyRule.TheVariants.{FullLane, LaneLessOne, Fixed}
+use Rattle.yard.specs.declared.rules.AnyRule.{AnyRule}
+use Rattle.yard.specs.declared.rules.AnyRule.TheVariants.{FullLane, LaneLessOne, Fixed}
 
 abbrev pub gaps_of : AnyRule → ℕ → ℕ → ℕ → ℕ
 gaps_of FullLane from to time = time
