@@ -1,5 +1,5 @@
 -- The calls made since the opening decide the answers and the book.
-use Rattle.std.proofs.Common.{◌≡◌, ℕ, Ok, Err, sym, refl, ap, ◌∙◌, subst, inl, inr, arith}
+use Rattle.std.proofs.Common.{◌≡◌, Ok, Err, sym, refl, ap, ◌∙◌, subst, inl, arith}
 use Rattle.sheet.specs.declared.refusal.EntryRefusal.{EntryRefusal}
 use Rattle.sheet.specs.Book.{Book}
 use Rattle.sheet.specs.Calls.{Call, Answer, Checks, checks, Refuses, Accepts, Answers, Changes, Leaves, without_precedence}
@@ -13,16 +13,12 @@ use Rattle.sheet.proofs.Soundness.{ever_sound}
 -- the first check that applies is one
 one_refusal : (cs : Checks) (e e' : EntryRefusal) → Refuses cs e → Refuses cs e' → e ≡ e'
 one_refusal no_more e e' p q = absurd p
-one_refusal (check P own cs) e e' (inl p) (inl q) = p.1 ∙ sym q.1
-one_refusal (check P own cs) e e' (inl p) (inr q) = absurd (q.0 p.0)
-one_refusal (check P own cs) e e' (inr p) (inl q) = absurd (p.0 q.0)
-one_refusal (check P own cs) e e' (inr p) (inr q) = one_refusal cs e e' p.1 q.1
+one_refusal (check P own cs) e e' p q = grind (arith, one_refusal cs e e')
 
 -- what is refused is not accepted
 not_both : (cs : Checks) (e : EntryRefusal) → Refuses cs e → Accepts cs → ⊥
 not_both no_more e p q = p
-not_both (check P own cs) e (inl p) q = q.0 p.0
-not_both (check P own cs) e (inr p) q = not_both cs e p.1 q.1
+not_both (check P own cs) e p q = grind (arith, not_both cs e)
 
 pub one_answer : (b : Book) (call : Call) (r r' : Answer) → Answers b call r → Answers b call r' → r ≡ r'
 one_answer b call (Ok n) (Ok n') p q = ap Ok (p.1 ∙ sym q.1)
@@ -55,8 +51,8 @@ more h h' (call, r) (call', r') b b' before (x, led, did) (x', led', did') hs sa
 
 pub calls_decide : CallsDecide
 calls_decide opening opening b b' p q e = (refl, p ∙ sym q)
-calls_decide opening (h' ▹ e') b b' p q e = let z : ◌≡◌ {A = ℕ} 0 1 = cc in absurd (omega arith)
-calls_decide (h ▹ e₀) opening b b' p q e = let z : ◌≡◌ {A = ℕ} 0 1 = cc in absurd (omega arith)
+calls_decide opening (h' ▹ e') b b' p q e = (cc, cc)
+calls_decide (h ▹ e₀) opening b b' p q e = (cc, cc)
 calls_decide (h ▹ e₀) (h' ▹ e') b b' p q e =
     let earlier : calls_of h ≡ calls_of h' = cc in
     let latest : e₀.0 ≡ e'.0 = cc in

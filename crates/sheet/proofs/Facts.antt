@@ -1,21 +1,20 @@
 -- What a sheet tells of its book: the facts on which judging builds.
-use Rattle.std.proofs.Common.{◌≡◌, ℕ, zero, suc, ◌<◌, ◌≢◌, ◌⊎◌, List, length, get_or, Some, None, vec_items, Option, sym, refl, ap, ◌∙◌, subst, inl, inr, ⊎_elim, arith}
+use Rattle.std.proofs.Common.{◌≡◌, ℕ, zero, suc, ◌<◌, ◌≤◌, ◌≢◌, ◌⊎◌, List, length, get_or, Some, None, Option, refl, inl, inr, ⊎_elim, arith, rules}
 use mathlib.Core.Logic.{∥∥₁_elim}
 use native.Mathlib.Nat.{ℕ_set}
 use Rattle.std.specs.List.{slice_get}
-use Rattle.std.proofs.lemmas.Option.{slice_get-get_or}
-use Rattle.std.proofs.lemmas.Bool.{cases_order}
-use Rattle.std.proofs.iter.runs.Lists.{slice_get_within}
+use Rattle.std.proofs.lemmas.List.{length-map}
+use Rattle.std.proofs.lemmas.Option.{slice_get-get_or, slice_get_within}
 use Rattle.sheet.specs.declared.records.Carrier.{Carrier}
 use Rattle.sheet.specs.declared.records.Stop.{Stop}
 use Rattle.sheet.specs.declared.records.Precedence.{Precedence}
 use Rattle.sheet.specs.declared.sheets.Sheet.{Sheet}
-use Rattle.sheet.specs.Book.{BookCarrier, BookPrecedence, Book, Goes, Visits, Stands, StartOf, ReachedGoal, Next, Starts, Latest}
-use Rattle.sheet.specs.Records.{book_carrier, book_precedence, Numbered, no_stop}
-use Rattle.sheet.specs.Sheets.{sheet_book}
+use Rattle.sheet.specs.Book.{BookCarrier, Book, Goes, Visits, Stands, StartOf, ReachedGoal, Next, Starts, Latest}
+use Rattle.sheet.specs.Records.{book_carrier, book_stop, book_precedence, Numbered, no_stop}
+use Rattle.sheet.specs.Sheets.{carriers_of, stops_of, precedences_of, sheet_book}
 use Rattle.sheet.specs.Sound.{Sound}
 use Rattle.sheet.proofs.Grown
-use Rattle.sheet.proofs.Nth.{nth_of_map, nth_from_map}
+use Rattle.sheet.proofs.SliceGet.{slice_get-map_some, slice_get-map_from}
 use Rattle.sheet.proofs.Stable.{sound_held, numbered_held}
 use Rattle.sheet.proofs.Told
 use Rattle.sheet.proofs.Words
@@ -25,17 +24,27 @@ module _ (s : Sheet) where
   b = sheet_book s
 
   abbrev cs : List Carrier
-  cs = vec_items s.tables.carriers
+  cs = carriers_of s
 
   abbrev ss : List Stop
-  ss = vec_items s.tables.stops
+  ss = stops_of s
 
   abbrev ps : List Precedence
-  ps = vec_items s.tables.precedences
+  ps = precedences_of s
 
   -- what always holds of its book
   pub sound_of : Sound b
   sound_of = sound_held b s.sound
+
+  -- its limits
+  pub few_carriers : length cs ≤ 64
+  few_carriers = rw (← length-map cs book_carrier) sound_of.few_carriers
+
+  pub few_stops : length ss ≤ 1024
+  few_stops = rw (← length-map ss book_stop) sound_of.few_stops
+
+  pub few_precedences : length ps ≤ 2048
+  few_precedences = rw (← length-map ps book_precedence) sound_of.few_precedences
 
   -- the numbers of stops that its records keep are right
   pub numbered_of : Numbered cs ss ps
@@ -43,12 +52,10 @@ module _ (s : Sheet) where
 
   -- a record and what the book says
   pub goes_of : (c : ℕ) (x : Carrier) → slice_get cs c ≡ Some x → Goes b c x.start x.goal
-  goes_of c x e = nth_of_map book_carrier cs c x e
+  goes_of c x e = slice_get-map_some book_carrier cs c x e
 
   pub goes_from : (c u v : ℕ) → Goes b c u v → (x : Carrier) × (slice_get cs c ≡ Some x) × (x.start ≡ u) × (x.goal ≡ v)
-  goes_from c u v g =
-      let f = nth_from_map book_carrier cs c _ g in
-      (f.0, f.1, ap (λ (k : BookCarrier). k.start) f.2, ap (λ (k : BookCarrier). k.goal) f.2)
+  goes_from c u v g = search (rules, slice_get-map_from)
 
   pub visits_of : (t : ℕ) (x : Stop) → slice_get ss t ≡ Some x → Visits b t x.carrier x.place
   visits_of t x e = Grown.visits_of cs ss ps t x e
@@ -57,12 +64,10 @@ module _ (s : Sheet) where
   visits_from t c u v = Grown.visits_from cs ss ps t c u v
 
   pub stands_of : (k : ℕ) (x : Precedence) → slice_get ps k ≡ Some x → Stands b k x.first x.second x.place
-  stands_of k x e = nth_of_map book_precedence ps k x e
+  stands_of k x e = slice_get-map_some book_precedence ps k x e
 
   pub stands_from : (k first second u : ℕ) → Stands b k first second u → (x : Precedence) × (slice_get ps k ≡ Some x) × (x.first ≡ first) × (x.second ≡ second) × (x.place ≡ u)
-  stands_from k first second u p =
-      let f = nth_from_map book_precedence ps k _ p in
-      (f.0, f.1, ap (λ (x : BookPrecedence). x.first) f.2, ap (λ (x : BookPrecedence). x.second) f.2, ap (λ (x : BookPrecedence). x.place) f.2)
+  stands_from k first second u p = search (rules, slice_get-map_from)
 
   -- a stop is of one carrier at one place, and a carrier stops at a place once
   pub one_visit : (t c u e v : ℕ) → Visits b t c u → Visits b t e v → (c ≡ e) × (u ≡ v)
@@ -84,7 +89,7 @@ module _ (s : Sheet) where
 
   -- a route that has reached its goal ends there, and one that has not has no stop there
   pub stops_at_goal : (c : ℕ) (x : Carrier) → slice_get cs c ≡ Some x → x.last_place ≡ x.goal → Visits b x.last_stop c x.goal
-  stops_at_goal c x e q = subst (λ u. Visits b x.last_stop c u) q (latest_of c x e).here
+  stops_at_goal c x e q = rw q at (latest_of c x e).here
 
   pub no_stop_at_goal : (c : ℕ) (x : Carrier) → slice_get cs c ≡ Some x → x.last_place ≢ x.goal → (t : ℕ) → Visits b t c x.goal → ⊥
   no_stop_at_goal c x e other t v =
@@ -102,8 +107,8 @@ module _ (s : Sheet) where
   previous_next t p x e q =
       let l = numbered_of.earlier t p x e q in
       let m = slice_get_within ss t x e in
-      let at : slice_get ss p ≡ Some (get_or ss p no_stop) = slice_get-get_or ss p no_stop (omega arith) in
-      (get_or ss p no_stop, at, numbered_of.previous t p x (get_or ss p no_stop) e q at)
+      let at = slice_get-get_or ss p no_stop (omega arith) in
+      (_, at, numbered_of.previous t p x _ e q at)
 
   -- a stop with none before it is its carrier's first
   pub none_starts : (t : ℕ) (x : Stop) → slice_get ss t ≡ Some x → x.previous ≡ None → Starts b x.carrier t x.place
@@ -115,64 +120,41 @@ module _ (s : Sheet) where
 
   -- a stop follows one stop, and a carrier has one first stop
   pub one_next : (c p u r w t v : ℕ) → Next b c p u t v → Next b c r w t v → p ≡ r
-  one_next c p u r w t v on in' =
-      ⊎_elim (λ e. e)
-      (⊎_elim
-      (λ (l : p < r). absurd (on.none_between r w l in'.later in'.here))
-      (λ (l : r < p). absurd (in'.none_between p u l on.later on.here)))
-      (cases_order p r)
+  one_next c p u r w t v on in' = grind arith
 
   pub one_start : (c t u r w : ℕ) → Starts b c t u → Starts b c r w → (t ≡ r) × (u ≡ w)
-  one_start c t u r w at by =
-      let same : t ≡ r = ⊎_elim (λ e. e)
-      (⊎_elim
-      (λ (l : t < r). absurd (by.first t u l at.here))
-      (λ (l : r < t). absurd (at.first r w l by.here)))
-      (cases_order t r) in
-      (same, (one_visit r c u c w (subst (λ n. Visits b n c u) same at.here) by.here).1)
+  one_start c t u r w at by = grind (arith, one_visit)
 
   -- the record of a stop keeps the one before it, or none where it is the first
   pub next_previous : (c p u t v : ℕ) (x : Stop) → slice_get ss t ≡ Some x → Next b c p u t v → x.previous ≡ Some p
   next_previous c p u t v x e on =
       let its = one_visit t x.carrier x.place c v (visits_of t x e) on.there in
       ⊎_elim
-      (λ q. absurd ((none_starts t x e q).first p u on.later (subst (λ n. Visits b p n u) (sym its.0) on.here)))
-      (λ (r, q). let y = previous_next t r x e q in
-      q ∙ ap Some (one_next c r y.0.place p u t v (subst (λ w. Next b c r y.0.place t w) its.1 (subst (λ n. Next b n r y.0.place t x.place) its.0 y.2)) on))
+      (λ q. absurd (grind (arith, none_starts t x e q)))
+      (λ (r, q). let y = previous_next t r x e q in let it = y.2 in grind (arith, it, one_next c r y.0.place p u t v))
       (some_or_none x.previous)
 
   pub starts_none : (c t u : ℕ) (x : Stop) → slice_get ss t ≡ Some x → Starts b c t u → x.previous ≡ None
   starts_none c t u x e at =
       let its = one_visit t x.carrier x.place c u (visits_of t x e) at.here in
       ⊎_elim (λ q. q)
-      (λ (r, q). let y = previous_next t r x e q in
-      absurd (at.first r y.0.place y.2.later (subst (λ n. Visits b r n y.0.place) its.0 y.2.here)))
+      (λ (r, q). let y = previous_next t r x e q in let it = y.2 in absurd (grind (arith, it, at.first r y.0.place)))
       (some_or_none x.previous)
 
   -- a stop is its carrier's first, or follows one
   pub first_or_next : (t c v : ℕ) → Visits b t c v → Starts b c t v ⊎ ((p u : ℕ) × Next b c p u t v)
   first_or_next t c v z =
       let x = visits_from t c v z in
-      let from : (P : ℕ → ℕ → Type 0) → P x.0.carrier x.0.place → P c v = λ P h. subst (λ u. P c u) x.3 (subst (λ n. P n x.0.place) x.2 h) in
       ⊎_elim
-      (λ q. inl (from (λ n u. Starts b n t u) (none_starts t x.0 x.1 q)))
-      (λ (p, q). let y = previous_next t p x.0 x.1 q in inr (p, y.0.place, from (λ n u. Next b n p y.0.place t u) y.2))
+      (λ q. inl (grind (arith, x, none_starts t x.0 x.1 q)))
+      (λ (p, q). let y = previous_next t p x.0 x.1 q in inr (p, y.0.place, grind (arith, x, y)))
       (some_or_none x.0.previous)
 
   -- a stop that is not its carrier's latest has a next one
   walk_back : (c a u : ℕ) → Visits b a c u → (n t v : ℕ) → t < n → a < t → Visits b t c v → (r w : ℕ) × Next b c a u r w
   walk_back c a u at zero t v l m z = absurd (omega arith)
   walk_back c a u at (suc n) t v l m z =
-      ⊎_elim
-      (λ first. absurd (first.first a u m at))
-      (λ (p, w, on). let k = on.later in
-      ⊎_elim
-      (λ e. (t, v, subst (λ y. Next b c a y t v) (one_visit a c w c u (subst (λ y. Visits b y c w) (sym e) on.here) at).1 (subst (λ y. Next b c y w t v) (sym e) on)))
-      (⊎_elim
-      (λ (o : a < p). walk_back c a u at n p w (omega arith) o on.here)
-      (λ (o : p < a). absurd (on.none_between a u o m at)))
-      (cases_order a p))
-      (first_or_next t c v z)
+      grind (arith, first_or_next t c v z, one_visit, walk_back c a u at n)
 
   pub has_next : (c a u t v : ℕ) → Visits b a c u → Visits b t c v → a < t → (r w : ℕ) × Next b c a u r w
   has_next c a u t v at z l = walk_back c a u at (suc t) t v (omega arith) l z
@@ -196,7 +178,7 @@ module _ (s : Sheet) where
       let x = goes_from c u v g in
       let late = latest_of c x.0 x.1 in
       let home = walk_home c (suc x.0.last_stop) _ _ (omega arith) late.here in
-      (home.0, subst (λ w. Starts b c home.0 w) (starts_at_start c home.0 home.1 u home.2 (v, g)) home.2)
+      (home.0, grind (arith, home, starts_at_start c home.0 home.1 u home.2 (v, g)))
 
   -- a carrier that stops somewhere is on the sheet
   pub goes : (t c u : ℕ) → Visits b t c u → (v w : ℕ) × Goes b c v w
@@ -219,22 +201,13 @@ module _ (s : Sheet) where
   pub second_follows : (k first second u r : ℕ) → Stands b k first second u → Visits b r second u → (p w : ℕ) × Next b second p w r u
   second_follows k first second u r stands z =
       ⊎_elim
-      (λ at. let g = goes r second u z in
-      let home = starts_at_start second r u g.0 at (g.1, g.2) in
-      absurd (sound_of.not_start k first second u stands (g.1, subst (λ w. Goes b second w g.1) (sym home) g.2)))
+      (λ at. let g = goes r second u z in absurd (grind (arith, starts_at_start second r u g.0 at (g.1, g.2), sound_of.not_start k first second u stands)))
       (λ on. on)
       (first_or_next r second u z)
 
   -- the first goes on to another stop, once its route has reached its goal
   pub first_goes_on : (k first second u r : ℕ) → Stands b k first second u → Visits b r first u → ReachedGoal b first → (t v : ℕ) × Next b first r u t v
-  first_goes_on k first second u r stands z (v, by, (t, at)) =
-      let other : u ≢ v = λ e. sound_of.not_goal k first second u stands (by.0, subst (λ w. Goes b first by.0 w) (sym e) by.1) in
-      ⊎_elim
-      (λ e. absurd (other (one_visit t first u first v (subst (λ n. Visits b n first u) e z) at).1))
-      (⊎_elim
-      (λ (l : r < t). has_next first r u t v z at l)
-      (λ (l : t < r). let m = sound_of.ends first t r v u by at z in absurd (omega arith)))
-      (cases_order r t)
+  first_goes_on k first second u r stands z reached = grind (arith, one_visit, has_next, sound_of.not_goal, sound_of.ends)
 
   -- two carriers have at most one precedence at a place, either way round
   pub decided_once : (j k c e u : ℕ) → Stands b j c e u → Stands b k c e u ⊎ Stands b k e c u → j ≡ k

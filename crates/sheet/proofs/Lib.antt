@@ -1,5 +1,5 @@
 pub mod Inside
-pub mod Nth
+pub mod SliceGet
 pub mod Words
 pub mod SoundCarrier
 pub mod SoundStop
@@ -10,7 +10,7 @@ pub mod Grown
 pub mod NumberedStops
 pub mod NumberedPrecedences
 pub mod Found
-pub mod Counts
+pub mod Checks
 pub mod Told
 pub mod Carried
 pub mod Entered

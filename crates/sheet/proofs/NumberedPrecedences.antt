@@ -1,12 +1,12 @@
 -- The numbers of stops that the records keep stay right when a precedence is entered or struck.
-use Rattle.std.proofs.Common.{◌≡◌, ℕ, ◌<◌, List, [], ◌∷◌, ◌++◌, length, Some, subst, ⊎_elim}
+use Rattle.std.proofs.Common.{◌≡◌, ℕ, ◌<◌, List, [], ◌∷◌, ◌++◌, length, Some, arith}
 use Rattle.std.specs.List.{remove, slice_get}
 use Rattle.sheet.specs.declared.records.Carrier.{Carrier}
 use Rattle.sheet.specs.declared.records.Stop.{Stop}
 use Rattle.sheet.specs.declared.records.Precedence.{Precedence}
 use Rattle.sheet.specs.Book.{Visits}
 use Rattle.sheet.specs.Records.{book_from, Numbered}
-use Rattle.sheet.proofs.Nth.{nth_push_cases, nth_removed}
+use Rattle.sheet.proofs.SliceGet.{slice_get-push_cases, slice_get-remove}
 use Rattle.sheet.proofs.Grown.{latest_same, starts_same, next_same}
 
 module _ (cs : List Carrier) (ss : List Stop) (ps ps' : List Precedence) (right : Numbered cs ss ps) where
@@ -27,11 +27,8 @@ module _ (cs : List Carrier) (ss : List Stop) (ps : List Precedence) (right : Nu
 
   pub numbered_precedence : (y : Precedence) → AtItsStops y → Numbered cs ss (ps ++ y ∷ [])
   numbered_precedence y new = numbered_others cs ss ps (ps ++ y ∷ []) right
-      (λ k x e. ⊎_elim
-      (λ o. (right.first_stop k x o, right.second_stop k x o))
-      (λ n. subst AtItsStops n.1 new)
-      (nth_push_cases ps y x k e))
+      (λ k x e. grind (arith, slice_get-push_cases ps y x k e, right.first_stop k x, right.second_stop k x))
 
   pub numbered_strike : (k : ℕ) → k < length ps → Numbered cs ss (remove ps k)
   numbered_strike k within = numbered_others cs ss ps (remove ps k) right
-      (λ i x e. let o = nth_removed ps k i x e within in (right.first_stop o.0 x o.1, right.second_stop o.0 x o.1))
+      (λ i x e. let o = slice_get-remove ps k i x e within in (right.first_stop o.0 x o.1, right.second_stop o.0 x o.1))

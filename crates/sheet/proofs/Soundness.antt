@@ -1,6 +1,6 @@
 -- Every book that a lawful history leads to is sound.
-use Rattle.std.proofs.Common.{Ok, Err, sym, subst, arith}
-use Rattle.std.proofs.iter.runs.Lists.{none-some, slice_get_within}
+use Rattle.std.proofs.Common.{Ok, Err, sym, subst, rules}
+use Rattle.std.proofs.lemmas.Option.{none-some, slice_get_within}
 use Rattle.sheet.specs.Book.{Book, opened}
 use Rattle.sheet.specs.Calls.{Call, Answer, Answers, Leaves}
 use Rattle.sheet.specs.Calls.Call.{enter_carrier, enter_stop, enter_precedence, strike_precedence}
@@ -12,25 +12,7 @@ use Rattle.sheet.proofs.SoundStop.{sound_stop}
 use Rattle.sheet.proofs.SoundPrecedence.{sound_precedence, sound_strike}
 
 pub sound_opened : Sound opened
-sound_opened = record {
-  few_carriers = omega arith;
-  few_stops = omega arith;
-  few_precedences = omega arith;
-  low_start = λ c u g. absurd (none-some _ g.1);
-  low_goal = λ c v g. absurd (none-some _ g.1);
-  low_stop = λ s c u v. absurd (none-some _ v);
-  distinct_starts = λ c e u g h. absurd (none-some _ g.1);
-  distinct_goals = λ c e u g h. absurd (none-some _ g.1);
-  known = λ s c u v. absurd (none-some _ v);
-  begins = λ c u g. absurd (none-some _ g.1);
-  once = λ c s t u v w. absurd (none-some _ v);
-  ends = λ c s t u v g p q. absurd (none-some _ p);
-  two = λ k f g u p. absurd (none-some _ p);
-  shared = λ k f g u p. absurd (none-some _ p);
-  not_goal = λ k f g u p. absurd (none-some _ p);
-  not_start = λ k f g u p. absurd (none-some _ p);
-  decided_once = λ j k c e u p q. absurd (none-some _ p);
-}
+sound_opened = search (rules, none-some)
 
 -- a call keeps a book sound
 pub sound_after : (b b' : Book) (call : Call) (r : Answer) → Answers b call r → Leaves b call r b' → Sound b → Sound b'

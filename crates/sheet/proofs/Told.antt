@@ -1,49 +1,54 @@
 -- What a carrier's record tells of the book.
-use Rattle.std.proofs.Common.{◌≡◌, ℕ, ◌<◌, ◌≤◌, eqb, Some, vec_items, Decides, sym, ◌∙◌, subst, ⊎_elim, arith}
+use Rattle.std.proofs.Common.{◌≡◌, ℕ, ◌↔◌, map, Some, subst, arith}
 use Rattle.std.specs.List.{slice_get}
-use Rattle.std.proofs.lemmas.Bool.{cases_lt}
-use Rattle.std.proofs.lemmas.Bool.Decides.{Decides-eqb, Decides-like}
+use Rattle.std.proofs.lemmas.Option.{slice_get_within}
 use Rattle.sheet.specs.declared.records.Carrier.{Carrier}
 use Rattle.sheet.specs.declared.sheets.Tables.{Tables}
 use Rattle.sheet.specs.Book.{Book, Goes, Visits, StartOf, GoalOf, ReachedGoal, Latest}
+use Rattle.sheet.specs.Calls.{Unknown}
 use Rattle.sheet.specs.Records.{book_carrier}
 use Rattle.sheet.specs.Sound.{Sound, Holds}
 use Rattle.sheet.specs.Tables.{book_of, NumberedTables}
-use Rattle.sheet.proofs.Nth.{nth_of_map}
+use Rattle.sheet.proofs.SliceGet.{slice_get-map_some}
 use Rattle.sheet.proofs.Stable.{sound_held, numbered_held}
 use Rattle.sheet.proofs.Words.{one_way, one_visit}
 
 -- carrier c's latest stop is at its goal just when its route has reached it
 pub at_goal : (b : Book) → Sound b → (c s u start goal : ℕ) → Goes b c start goal → Latest b c s u → ReachedGoal b c → u ≡ goal
-at_goal b sound c s u start goal goes late (v, by, (t, at)) =
-    let same = one_way b c start goal by.0 v goes by.1 in
-    let before : s ≤ t = sound.ends c t s v u by at late.here in
-    let after : t ≤ s = ⊎_elim (λ (l : s < t). absurd (late.last t v l at)) (λ (l : t ≤ s). l) (cases_lt s t) in
-    let one : s ≡ t = omega arith in
-    (one_visit b t c u c v (subst (λ n. Visits b n c u) one late.here) at).1 ∙ sym same.1
+at_goal b sound c s u start goal goes late reached = grind (arith, one_way b, one_visit b)
 
-module _ (t : Tables) (c : ℕ) (x : Carrier) (read : slice_get (vec_items t.carriers) c ≡ Some x) where
-  pub goes_told : Goes (book_of t) c x.start x.goal
-  goes_told = nth_of_map book_carrier (vec_items t.carriers) c x read
+module _ (t : Tables) (c : ℕ) (x : Carrier) (read : slice_get t.carriers c ≡ Some x) where
+  goes_told : Goes (book_of t) c x.start x.goal
+  goes_told = slice_get-map_some book_carrier t.carriers c x read
 
-  pub start_told : (u : ℕ) → Decides (eqb x.start u) (StartOf (book_of t) c u)
-  start_told u = Decides-like _
-      (λ (e : x.start ≡ u). (x.goal, subst (λ w. Goes (book_of t) c w x.goal) e goes_told))
-      (λ by. (one_way (book_of t) c x.start x.goal u by.0 goes_told by.1).0)
-      (Decides-eqb x.start u)
+  -- it is on the sheet
+  pub known_told : Unknown (book_of t) c → ⊥
+  known_told past = let l = slice_get_within (map book_carrier t.carriers) c _ goes_told in omega arith
 
-  pub goal_told : (v : ℕ) → Decides (eqb x.goal v) (GoalOf (book_of t) c v)
-  goal_told v = Decides-like _
-      (λ (e : x.goal ≡ v). (x.start, subst (λ w. Goes (book_of t) c x.start w) e goes_told))
-      (λ by. (one_way (book_of t) c x.start x.goal by.0 v goes_told by.1).1)
-      (Decides-eqb x.goal v)
+  -- its start, and its goal
+  pub start_told : (u : ℕ) → (x.start ≡ u) ↔ StartOf (book_of t) c u
+  start_told u = (
+    λ e. (x.goal, subst (λ w. Goes (book_of t) c w x.goal) e goes_told),
+    λ by. (one_way (book_of t) c x.start x.goal u by.0 goes_told by.1).0,
+  )
+
+  pub goal_told : (v : ℕ) → (x.goal ≡ v) ↔ GoalOf (book_of t) c v
+  goal_told v = (
+    λ e. (x.start, subst (λ w. Goes (book_of t) c x.start w) e goes_told),
+    λ by. (one_way (book_of t) c x.start x.goal by.0 v goes_told by.1).1,
+  )
 
   module _ (sound : Holds (Sound (book_of t))) (numbered : Holds (NumberedTables t)) where
     latest_told : Latest (book_of t) c x.last_stop x.last_place
     latest_told = (numbered_held _ _ _ numbered).latest c x read
 
-    pub reached_told : Decides (eqb x.last_place x.goal) (ReachedGoal (book_of t) c)
-    reached_told = Decides-like _
-        (λ (e : x.last_place ≡ x.goal). (x.goal, (x.start, goes_told), (x.last_stop, subst (λ w. Visits (book_of t) x.last_stop c w) e latest_told.here)))
-        (λ reached. at_goal (book_of t) (sound_held _ sound) c _ _ _ _ goes_told latest_told reached)
-        (Decides-eqb x.last_place x.goal)
+    -- its route has reached its goal just when its latest stop is there
+    pub reached_told : (x.last_place ≡ x.goal) ↔ ReachedGoal (book_of t) c
+    reached_told = (
+      λ e. (x.goal, (x.start, goes_told), (x.last_stop, subst (λ w. Visits (book_of t) x.last_stop c w) e latest_told.here)),
+      λ reached. at_goal (book_of t) (sound_held _ sound) c _ _ _ _ goes_told latest_told reached,
+    )
+
+-- the first carrier's goal and the second one's start
+pub ends_told : (t : Tables) (first second : ℕ) (x y : Carrier) → slice_get t.carriers first ≡ Some x → slice_get t.carriers second ≡ Some y → (u : ℕ) → ((x.goal ≡ u) ↔ GoalOf (book_of t) first u) × ((y.start ≡ u) ↔ StartOf (book_of t) second u)
+ends_told t first second x y p q u = (goal_told t first x p u, start_told t second y q u)

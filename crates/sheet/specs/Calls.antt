@@ -49,6 +49,13 @@ pub data Checks : Type 1 where
   no_more : Checks
   check : Type 0 → EntryRefusal → Checks → Checks
 
+-- that there are two carriers and not one, before the other checks
+abbrev pub pair_checks : Book → ℕ → ℕ → Checks → Checks
+pair_checks b first second others =
+    check (Unknown b first ⊎ Unknown b second) NoCarrier
+    (check (first ≡ second) SameCarrier
+    others)
+
 abbrev pub checks : Book → Call → Checks
 checks b (enter_carrier start goal) =
     check (TooHigh start ⊎ TooHigh goal) PlaceTooHigh
@@ -63,18 +70,16 @@ checks b (enter_stop c u) =
     (check (StopsFull b) LimitReached
     no_more))))
 checks b (enter_precedence first second u) =
-    check (Unknown b first ⊎ Unknown b second) NoCarrier
-    (check (first ≡ second) SameCarrier
+    pair_checks b first second
     (check ((OnRoute b first u → ⊥) ⊎ (OnRoute b second u → ⊥)) NotOnBothRoutes
     (check (GoalOf b first u ⊎ StartOf b second u) FirstsGoalOrSecondsStart
     (check (Decided b first second u) AlreadyDecided
     (check (PrecedencesFull b) LimitReached
-    no_more)))))
+    no_more))))
 checks b (strike_precedence first second u) =
-    check (Unknown b first ⊎ Unknown b second) NoCarrier
-    (check (first ≡ second) SameCarrier
+    pair_checks b first second
     (check (Standing b first second u → ⊥) NothingToStrike
-    no_more))
+    no_more)
 
 -- the first check that applies refuses so
 abbrev pub Refuses : Checks → EntryRefusal → Type 0
@@ -86,10 +91,14 @@ abbrev pub Accepts : Checks → Type 0
 Accepts no_more = Unit {0}
 Accepts (check Applies refusal others) = (Applies → ⊥) × Accepts others
 
+-- no check applies, or the first that applies refuses
+abbrev pub CheckedBy : {X : Type 0} → Checks → Result X EntryRefusal → Type 0
+CheckedBy cs (Ok x) = Accepts cs
+CheckedBy cs (Err refusal) = Refuses cs refusal
+
 -- the call passes its checks, or the first that applies refuses it
 abbrev pub Checked : {X : Type 0} → Book → Call → Result X EntryRefusal → Type 0
-Checked b call (Ok x) = Accepts (checks b call)
-Checked b call (Err refusal) = Refuses (checks b call) refusal
+Checked b call result = CheckedBy (checks b call) result
 
 -- what an accepted call answers: the number of the new carrier or stop, or how many precedences then stand
 abbrev pub number : Book → Call → ℕ

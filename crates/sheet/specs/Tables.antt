@@ -1,5 +1,5 @@
 -- The book that tables stand for, and what their records keep.
-use Rattle.std.specs.Prelude.{◌≡◌, ℕ, ◌<◌, List, [], ◌∷◌, ◌++◌, length, Some, vec_items, slice_index_or, slice_set}
+use Rattle.std.specs.Prelude.{◌≡◌, ℕ, ◌<◌, List, [], ◌∷◌, ◌++◌, length, Some, slice_index_or, slice_set}
 use Rattle.sheet.specs.declared.records.Carrier.{Carrier}
 use Rattle.sheet.specs.declared.records.Stop.{Stop}
 use Rattle.sheet.specs.declared.records.Precedence.{Precedence}
@@ -8,19 +8,19 @@ use Rattle.sheet.specs.Book.{Book}
 use Rattle.sheet.specs.Records.{book_from, Numbered, gone_on, no_carrier, no_stop, no_precedence}
 
 abbrev pub book_of : Tables → Book
-book_of t = book_from (vec_items t.carriers) (vec_items t.stops) (vec_items t.precedences)
+book_of t = book_from t.carriers t.stops t.precedences
 
 -- the numbers of stops that the records keep are right
 abbrev pub NumberedTables : Tables → Type 0
-NumberedTables t = Numbered (vec_items t.carriers) (vec_items t.stops) (vec_items t.precedences)
+NumberedTables t = Numbered t.carriers t.stops t.precedences
 
 -- the carrier's record goes on to the stop, the stop's is new, and every other record stays
 abbrev pub OnlyGoesOn : Tables → ℕ → ℕ → ℕ → Tables → Type 0
 OnlyGoesOn t carrier stop place t' =
-    let was = slice_index_or (vec_items t.carriers) carrier no_carrier in
-    (vec_items t'.carriers ≡ slice_set (vec_items t.carriers) carrier (gone_on was stop place))
-    × (vec_items t'.stops ≡ vec_items t.stops ++ record { carrier = carrier; place = place; previous = Some was.last_stop } ∷ [])
-    × (vec_items t'.precedences ≡ vec_items t.precedences)
+    let was = slice_index_or t.carriers carrier no_carrier in
+    (t'.carriers ≡ slice_set t.carriers carrier (gone_on was stop place))
+    × (t'.stops ≡ t.stops ++ record { carrier = carrier; place = place; previous = Some was.last_stop } ∷ [])
+    × (t'.precedences ≡ t.precedences)
 
 -- each carrier's latest stop is one of the n stops
 abbrev pub CarriersInside : ℕ → List Carrier → Type 0

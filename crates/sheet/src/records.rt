@@ -1,5 +1,5 @@
 // The records of a sheet, and the keys by which they are found.
-ghost use Rattle.std.specs.Prelude.{◌≡◌, Decides};
+ghost use Rattle.std.specs.Prelude.{◌≡◌, ◌↔◌, IsTrue};
 ghost use Rattle.sheet.specs.Records.{gone_on};
 
 use keyed::Keyed;
@@ -19,7 +19,7 @@ pub struct Carrier {
 impl Carrier {
     // Whether the route has reached its goal.
     pub fn is_at_goal(&self) -> bool
-        ensures { Decides result (self.now.last_place ≡ self.now.goal) }
+        ensures { IsTrue result ↔ (self.now.last_place ≡ self.now.goal) }
     {
         self.last_place == self.goal
     }
@@ -42,6 +42,18 @@ pub struct Stop {
     pub previous: Option<u16>,
 }
 
+impl Stop {
+    // Its key.
+    fn visit(&self) -> Visit
+        ensures { result ≡ record { carrier = self.now.carrier; place = self.now.place } }
+    {
+        Visit {
+            carrier: self.carrier,
+            place: self.place,
+        }
+    }
+}
+
 // A precedence: carrier `first` leaves the place before carrier `second` reaches it.
 #[derive(Clone, Copy, PartialEq, Eq, Debug)]
 pub struct Precedence {
@@ -53,34 +65,70 @@ pub struct Precedence {
     pub second_stop: u16,
 }
 
+impl Precedence {
+    // Its key.
+    fn order(&self) -> Order
+        ensures { result ≡ record { first = self.now.first; second = self.now.second; place = self.now.place } }
+    {
+        Order {
+            first: self.first,
+            second: self.second,
+            place: self.place,
+        }
+    }
+}
+
 // The key of a carrier's start.
-#[derive(Clone, Copy)]
+#[derive(Clone, Copy, PartialEq, Eq, Debug)]
 pub struct Start(pub u16);
 
 // The key of a carrier's goal.
-#[derive(Clone, Copy)]
+#[derive(Clone, Copy, PartialEq, Eq, Debug)]
 pub struct Goal(pub u16);
 
 // The key of a stop: no route has a place twice.
-#[derive(Clone, Copy)]
+#[derive(Clone, Copy, PartialEq, Eq, Debug)]
 pub struct Visit {
     pub carrier: u8,
     pub place: u16,
 }
 
 // The key of a precedence.
-#[derive(Clone, Copy)]
+#[derive(Clone, Copy, PartialEq, Eq, Debug)]
 pub struct Order {
     pub first: u8,
     pub second: u8,
     pub place: u16,
 }
 
+impl Order {
+    // A carrier's visit to the place.
+    pub(crate) fn visit_of(&self, carrier: u8) -> Visit
+        ensures { result ≡ record { carrier = carrier; place = self.now.place } }
+    {
+        Visit {
+            carrier,
+            place: self.place,
+        }
+    }
+
+    // The same two carriers at the place, the other way round.
+    pub(crate) fn reversed(&self) -> Order
+        ensures { result ≡ record { first = self.now.second; second = self.now.first; place = self.now.place } }
+    {
+        Order {
+            first: self.second,
+            second: self.first,
+            place: self.place,
+        }
+    }
+}
+
 impl Keyed<Start> for Carrier {
     ghost key = { λ s. record { 0 = s.start } };
 
     fn has_key(&self, wanted: &Start) -> bool {
-        self.start == wanted.0
+        *wanted == Start(self.start)
     }
 }
 
@@ -88,7 +136,7 @@ impl Keyed<Goal> for Carrier {
     ghost key = { λ s. record { 0 = s.goal } };
 
     fn has_key(&self, wanted: &Goal) -> bool {
-        self.goal == wanted.0
+        *wanted == Goal(self.goal)
     }
 }
 
@@ -96,7 +144,7 @@ impl Keyed<Visit> for Stop {
     ghost key = { λ s. record { carrier = s.carrier; place = s.place } };
 
     fn has_key(&self, wanted: &Visit) -> bool {
-        self.carrier == wanted.carrier && self.place == wanted.place
+        *wanted == self.visit()
     }
 }
 
@@ -104,6 +152,6 @@ impl Keyed<Order> for Precedence {
     ghost key = { λ s. record { first = s.first; second = s.second; place = s.place } };
 
     fn has_key(&self, wanted: &Order) -> bool {
-        self.first == wanted.first && self.second == wanted.second && self.place == wanted.place
+        *wanted == self.order()
     }
 }

@@ -2,30 +2,31 @@
 ghost use Rattle.std.specs.Prelude.{◌≡◌};
 ghost use Rattle.sheet.specs.Refusals.{number_of};
 
+// A refusal, with its number.
 #[derive(Clone, Copy, PartialEq, Eq, Debug)]
 pub enum EntryRefusal {
     // A limit of the sheet is reached.
-    LimitReached,
+    LimitReached = 1,
     // There is no such carrier.
-    NoCarrier,
+    NoCarrier = 2,
     // Another carrier has this start, or this goal.
-    EndTaken,
+    EndTaken = 3,
     // The route has reached its goal.
-    RouteAtGoal,
+    RouteAtGoal = 4,
     // A place is above 4,095.
-    PlaceTooHigh,
+    PlaceTooHigh = 5,
     // The place is on this route.
-    PlaceOnRoute,
+    PlaceOnRoute = 6,
     // The first and the second carrier are one.
-    SameCarrier,
+    SameCarrier = 7,
     // The place is not a stop of both carriers.
-    NotOnBothRoutes,
+    NotOnBothRoutes = 8,
     // The place is the first carrier's goal or the second one's start.
-    FirstsGoalOrSecondsStart,
+    FirstsGoalOrSecondsStart = 9,
     // The two carriers have a precedence at the place, either way round.
-    AlreadyDecided,
+    AlreadyDecided = 10,
     // There is no such precedence.
-    NothingToStrike,
+    NothingToStrike = 11,
 }
 
 impl EntryRefusal {
@@ -33,18 +34,6 @@ impl EntryRefusal {
     pub fn number(&self) -> u8
         ensures { result ≡ number_of self.now }
     {
-        match self {
-            EntryRefusal::LimitReached => 1,
-            EntryRefusal::NoCarrier => 2,
-            EntryRefusal::EndTaken => 3,
-            EntryRefusal::RouteAtGoal => 4,
-            EntryRefusal::PlaceTooHigh => 5,
-            EntryRefusal::PlaceOnRoute => 6,
-            EntryRefusal::SameCarrier => 7,
-            EntryRefusal::NotOnBothRoutes => 8,
-            EntryRefusal::FirstsGoalOrSecondsStart => 9,
-            EntryRefusal::AlreadyDecided => 10,
-            EntryRefusal::NothingToStrike => 11,
-        }
+        *self as u8
     }
 }

@@ -1,8 +1,9 @@
 // The sheet and its calls.
-ghost use Rattle.std.specs.Prelude.{◌≡◌, ◌+◌, ◌<◌, ◌≤◌, length, IfSome, IfOk, vec_len, vec_capacity, Decides, MatchOption, OnErr, OnOk};
-ghost use Rattle.std.specs.List.{remove};
-ghost use Rattle.sheet.specs.Book.{Visits, Stands, StartOf, GoalOf, OnRoute, ReachedGoal, Decided, opened};
-ghost use Rattle.sheet.specs.Calls.{CarriersFull, StopsFull, PrecedencesFull, StartTaken, GoalTaken, Standing, Checked, Answers, Leaves};
+ghost use Rattle.std.specs.Prelude.{◌≡◌, ◌<◌, ◌↔◌, length, Any, IsTrue, IfOk, IfErr, OnErr, OnOk};
+ghost use Rattle.std.specs.List.{slice_get};
+ghost use Rattle.sheet.specs.Book.{Visits, Stands, OnRoute, Decided, opened};
+ghost use Rattle.sheet.specs.Calls.{Unknown, CheckedBy, Checked, Answers, Leaves, pair_checks};
+ghost use Rattle.sheet.specs.Calls.Checks.{no_more};
 ghost use Rattle.sheet.specs.Calls.Call.{enter_carrier, enter_stop, enter_precedence, strike_precedence};
 ghost use Rattle.sheet.specs.Histories.{Lawful, Continues, AlwaysSound, CallsDecide};
 ghost use Rattle.sheet.specs.Histories.History.{opening};
@@ -11,7 +12,8 @@ ghost use Rattle.sheet.specs.Tables.{book_of, OnlyGoesOn, NumberedTables, Carrie
 
 use crate::records::{Carrier, Goal, Order, Precedence, Start, Stop, Visit};
 use crate::refusal::EntryRefusal;
-use keyed::find;
+use bounded::BoundedVec;
+use keyed::{Keyed, find};
 use std::alloc::{AllocError, Global};
 
 // The most that a sheet holds of each.
@@ -27,118 +29,66 @@ const HIGHEST_PLACE: u16 = 4095;
 // The three lists of a sheet, each in order of entry.
 #[derive(Drop)]
 pub struct Tables {
-    carriers: Vec<Carrier>,
-    stops: Vec<Stop>,
-    precedences: Vec<Precedence>,
+    carriers: BoundedVec<Carrier, MOST_CARRIERS>,
+    stops: BoundedVec<Stop, MOST_STOPS>,
+    precedences: BoundedVec<Precedence, MOST_PRECEDENCES>,
+}
+
+// Whether a record has the wanted key.
+fn has<K, R: Keyed<K>>(records: &[R], wanted: &K) -> bool
+    ensures { IsTrue result ↔ Any (λ x. R.Keyed.key x ≡ wanted.now) records.now }
+{
+    find(records, wanted).is_some()
 }
 
 impl Tables {
-    // Whether there are as many carriers as there may be.
-    fn are_carriers_full(&self) -> bool
-        ensures { Decides result (CarriersFull (book_of self.now)) }
+    // The carrier with this number.
+    fn carrier(&self, number: u8) -> Result<&Carrier, EntryRefusal>
+        ensures known { IfOk result (λ x. slice_get self.now.carriers number ≡ Some x.now) }
+        ensures unknown { IfErr result (λ e. Unknown (book_of self.now) number × (e ≡ EntryRefusal.NoCarrier)) }
     {
-        self.carriers.len() >= MOST_CARRIERS
+        self.carriers
+            .as_slice()
+            .get(usize::from(number))
+            .ok_or(EntryRefusal::NoCarrier)
     }
 
-    // Whether there are as many stops as there may be.
-    fn are_stops_full(&self) -> bool
-        ensures { Decides result (StopsFull (book_of self.now)) }
+    // The two carriers of a precedence, which are two and not one.
+    fn pair(&self, order: Order) -> Result<(&Carrier, &Carrier), EntryRefusal>
+        ensures first { IfOk result (λ p. slice_get self.now.carriers order.first ≡ Some p.0.now) }
+        ensures second { IfOk result (λ p. slice_get self.now.carriers order.second ≡ Some p.1.now) }
+        ensures checked { CheckedBy (pair_checks (book_of self.now) order.first order.second no_more) result }
     {
-        self.stops.len() >= MOST_STOPS
-    }
-
-    // Whether as many precedences stand as there may be.
-    fn are_precedences_full(&self) -> bool
-        ensures { Decides result (PrecedencesFull (book_of self.now)) }
-    {
-        self.precedences.len() >= MOST_PRECEDENCES
-    }
-
-    // Whether there is a carrier with this number.
-    fn has_carrier(&self, carrier: u8) -> bool
-        ensures known { Decides result (carrier < length (book_of self.now).carriers) }
-        ensures within { Decides result (carrier < vec_len self.now.carriers) }
-    {
-        (carrier as usize) < self.carriers.len()
-    }
-
-    // Whether a carrier has this start.
-    fn has_start(&self, start: u16) -> bool
-        ensures { Decides result (StartTaken (book_of self.now) start) }
-    {
-        find(self.carriers.as_slice(), &Start(start)).is_some()
-    }
-
-    // Whether a carrier has this goal.
-    fn has_goal(&self, goal: u16) -> bool
-        ensures { Decides result (GoalTaken (book_of self.now) goal) }
-    {
-        find(self.carriers.as_slice(), &Goal(goal)).is_some()
-    }
-
-    // Whether the place is the start of the carrier.
-    fn is_start(&self, carrier: u8, place: u16) -> bool
-        requires { carrier < vec_len self.now.carriers }
-        ensures { Decides result (StartOf (book_of self.now) carrier place) }
-    {
-        self.carriers[carrier as usize].start == place
-    }
-
-    // Whether the place is the goal of the carrier.
-    fn is_goal(&self, carrier: u8, place: u16) -> bool
-        requires { carrier < vec_len self.now.carriers }
-        ensures { Decides result (GoalOf (book_of self.now) carrier place) }
-    {
-        self.carriers[carrier as usize].goal == place
-    }
-
-    // The number of the carrier's stop at the place.
-    fn stop_at(&self, carrier: u8, place: u16) -> Option<usize>
-        ensures finds { MatchOption result (OnRoute (book_of self.now) carrier place → ⊥) (λ s. Visits (book_of self.now) s carrier place) }
-        ensures within { IfSome result (λ s. s < vec_len self.now.stops) }
-    {
-        find(self.stops.as_slice(), &Visit { carrier, place })
+        let first = self.carrier(order.first)?;
+        let second = self.carrier(order.second)?;
+        if order.first == order.second {
+            return Err(EntryRefusal::SameCarrier);
+        }
+        Ok((first, second))
     }
 
     // Whether the place is on the route of the carrier.
-    fn is_on_route(&self, carrier: u8, place: u16) -> bool
-        ensures { Decides result (OnRoute (book_of self.now) carrier place) }
+    fn is_on_route(&self, visit: Visit) -> bool
+        ensures { IsTrue result ↔ OnRoute (book_of self.now) visit.carrier visit.place }
     {
-        self.stop_at(carrier, place).is_some()
+        has(self.stops.as_slice(), &visit)
     }
 
-    // The index of the precedence.
-    fn index_of(&self, first: u8, second: u8, place: u16) -> Option<usize>
-        ensures finds { MatchOption result (Standing (book_of self.now) first second place → ⊥) (λ k. Stands (book_of self.now) k first second place) }
-        ensures within { IfSome result (λ k. k < vec_len self.now.precedences) }
+    // The number of the carrier's stop at the place.
+    fn stop_at(&self, visit: Visit) -> Result<u16, EntryRefusal>
+        ensures finds { IfOk result (λ s. Visits (book_of self.now) s visit.carrier visit.place) }
+        ensures refuses { IfErr result (λ e. (OnRoute (book_of self.now) visit.carrier visit.place → ⊥) × (e ≡ EntryRefusal.NotOnBothRoutes)) }
     {
-        find(
-            self.precedences.as_slice(),
-            &Order {
-                first,
-                second,
-                place,
-            },
-        )
+        let number = find(self.stops.as_slice(), &visit).ok_or(EntryRefusal::NotOnBothRoutes)?;
+        Ok(number as u16)
     }
 
     // Whether the two carriers have a precedence at the place, either way round.
-    fn is_decided(&self, first: u8, second: u8, place: u16) -> bool
-        ensures { Decides result (Decided (book_of self.now) first second place) }
+    fn is_decided(&self, order: Order) -> bool
+        ensures { IsTrue result ↔ Decided (book_of self.now) order.first order.second order.place }
     {
-        self.index_of(first, second, place).is_some()
-            || self.index_of(second, first, place).is_some()
-    }
-
-    // Takes a precedence away. The others keep their order.
-    fn remove_precedence(&mut self, index: usize)
-        requires { index < vec_len self.old.precedences }
-        ensures removes { self.new.precedences.items ≡ remove self.old.precedences.items index }
-        ensures shorter { vec_len self.new.precedences + 1 ≡ vec_len self.old.precedences }
-        ensures room { vec_capacity self.new.precedences ≡ vec_capacity self.old.precedences }
-        ensures others { (self.new.carriers ≡ self.old.carriers) × (self.new.stops ≡ self.old.stops) }
-    {
-        let _ = self.precedences.remove(index);
+        let precedences = self.precedences.as_slice();
+        has(precedences, &order) || has(precedences, &order.reversed())
     }
 }
 
@@ -146,31 +96,31 @@ impl Tables {
 #[derive(Drop)]
 pub struct Sheet {
     tables: Tables,
-    // Room for the most that the tables may hold, and no more in them than that.
-    ghost room: { (64 ≤ vec_capacity tables.carriers) × (1024 ≤ vec_capacity tables.stops) × (2048 ≤ vec_capacity tables.precedences) },
-    ghost limits: { (vec_len tables.carriers ≤ 64) × (vec_len tables.stops ≤ 1024) × (vec_len tables.precedences ≤ 2048) },
     // What always holds of its book.
     ghost sound: { Holds (Sound (book_of tables)) },
     // The numbers of stops that the records keep are right.
     ghost numbered: { Holds (NumberedTables tables) },
     // So each number in a record is one of a record that stands.
-    ghost latest: { CarriersInside (vec_len tables.stops) tables.carriers.items },
-    ghost carried: { StopsInside (vec_len tables.carriers) tables.stops.items },
-    ghost linked: { Linked tables.stops.items },
-    ghost lawful: { PrecedencesInside (vec_len tables.carriers) (vec_len tables.stops) tables.precedences.items },
+    ghost latest: { CarriersInside (length tables.stops) tables.carriers },
+    ghost carried: { StopsInside (length tables.carriers) tables.stops },
+    ghost linked: { Linked tables.stops },
+    ghost lawful: { PrecedencesInside (length tables.carriers) (length tables.stops) tables.precedences },
 }
 
 impl Sheet {
+    ghost use Rattle.sheet.specs.Sheets.{carriers_of, stops_of, precedences_of, sheet_book};
+
     // Opens an empty sheet. Whatever calls then follow, they alone decide the answers and the book, and the book is sound.
+    #[tactic(auto, using(crate::proofs::Soundness::ever_sound, crate::proofs::Determined::calls_decide))]
     pub fn open(heap: Global) -> Result<Sheet, AllocError>
-        ensures opens { IfOk result (λ s. book_of s.tables ≡ opened) }
-        ensures begins { IfOk result (λ s. Lawful opening (book_of s.tables)) }
+        ensures opens { IfOk result (λ s. sheet_book s ≡ opened) }
+        ensures begins { IfOk result (λ s. Lawful opening (sheet_book s)) }
         ensures always { AlwaysSound }
         ensures decided { CallsDecide }
     {
-        let carriers = Vec::with_capacity(heap, MOST_CARRIERS)?;
-        let stops = Vec::with_capacity(heap, MOST_STOPS)?;
-        let precedences = Vec::with_capacity(heap, MOST_PRECEDENCES)?;
+        let carriers = BoundedVec::new(heap)?;
+        let stops = BoundedVec::new(heap)?;
+        let precedences = BoundedVec::new(heap)?;
         Ok(Sheet {
             tables: Tables {
                 carriers,
@@ -182,167 +132,147 @@ impl Sheet {
 
     // The carriers, by number.
     pub fn carriers(&self) -> &[Carrier]
-        ensures { result.now ≡ self.now.tables.carriers.items }
+        ensures { result.now ≡ carriers_of self.now }
     {
         self.tables.carriers.as_slice()
     }
 
     // The stops, by number.
     pub fn stops(&self) -> &[Stop]
-        ensures { result.now ≡ self.now.tables.stops.items }
+        ensures { result.now ≡ stops_of self.now }
     {
         self.tables.stops.as_slice()
     }
 
     // The standing precedences, in order of entry.
     pub fn precedences(&self) -> &[Precedence]
-        ensures { result.now ≡ self.now.tables.precedences.items }
+        ensures { result.now ≡ precedences_of self.now }
     {
         self.tables.precedences.as_slice()
     }
 
     // Checks whether a carrier may be entered.
     fn check_carrier(&self, start: u16, goal: u16) -> Result<(), EntryRefusal>
-        ensures checked { Checked (book_of self.now.tables) (enter_carrier start goal) result }
-        ensures room { OnOk result ((vec_len self.now.tables.carriers < 64) × (vec_len self.now.tables.stops < 1024)) }
+        ensures checked { Checked (sheet_book self.now) (enter_carrier start goal) result }
+        ensures room { OnOk result ((length (carriers_of self.now) < 64) × (length (stops_of self.now) < 1024)) }
     {
         if start > HIGHEST_PLACE || goal > HIGHEST_PLACE {
             return Err(EntryRefusal::PlaceTooHigh);
         }
-        if self.tables.are_carriers_full() || self.tables.are_stops_full() {
+        if self.tables.carriers.is_full() || self.tables.stops.is_full() {
             return Err(EntryRefusal::LimitReached);
         }
-        if self.tables.has_start(start) || self.tables.has_goal(goal) {
+        let carriers = self.carriers();
+        if has(carriers, &Start(start)) || has(carriers, &Goal(goal)) {
             return Err(EntryRefusal::EndTaken);
         }
         Ok(())
     }
 
-    // Whether the route of the carrier has reached its goal.
-    fn has_reached_goal(&self, carrier: u8) -> bool
-        requires { carrier < vec_len self.now.tables.carriers }
-        ensures { Decides result (ReachedGoal (book_of self.now.tables) carrier) }
-    {
-        self.tables.carriers[carrier as usize].is_at_goal()
-    }
-
     // Checks whether a stop may be entered.
-    fn check_stop(&self, carrier: u8, place: u16) -> Result<(), EntryRefusal>
-        ensures checked { Checked (book_of self.now.tables) (enter_stop carrier place) result }
-        ensures room { OnOk result ((carrier < vec_len self.now.tables.carriers) × (vec_len self.now.tables.stops < 1024)) }
+    fn check_stop(&self, visit: Visit) -> Result<(), EntryRefusal>
+        ensures checked { Checked (sheet_book self.now) (enter_stop visit.carrier visit.place) result }
+        ensures room { OnOk result ((visit.carrier < length (carriers_of self.now)) × (length (stops_of self.now) < 1024)) }
     {
-        if !self.tables.has_carrier(carrier) {
-            return Err(EntryRefusal::NoCarrier);
-        }
-        if place > HIGHEST_PLACE {
+        let carrier = self.tables.carrier(visit.carrier)?;
+        if visit.place > HIGHEST_PLACE {
             return Err(EntryRefusal::PlaceTooHigh);
         }
-        if self.has_reached_goal(carrier) {
+        if carrier.is_at_goal() {
             return Err(EntryRefusal::RouteAtGoal);
         }
-        if self.tables.is_on_route(carrier, place) {
+        if self.tables.is_on_route(visit) {
             return Err(EntryRefusal::PlaceOnRoute);
         }
-        if self.tables.are_stops_full() {
+        if self.tables.stops.is_full() {
             return Err(EntryRefusal::LimitReached);
         }
         Ok(())
     }
 
     // Checks whether a precedence may be entered, and answers the stops of first and second at the place.
-    fn check_precedence(
-        &self,
-        first: u8,
-        second: u8,
-        place: u16,
-    ) -> Result<(u16, u16), EntryRefusal>
-        ensures checked { Checked (book_of self.now.tables) (enter_precedence first second place) result }
-        ensures stops { IfOk result (λ s. Visits (book_of self.now.tables) s.0 first place × Visits (book_of self.now.tables) s.1 second place) }
-        ensures room { OnOk result (vec_len self.now.tables.precedences < 2048) }
+    fn check_precedence(&self, order: Order) -> Result<(u16, u16), EntryRefusal>
+        ensures checked { Checked (sheet_book self.now) (enter_precedence order.first order.second order.place) result }
+        ensures stops { IfOk result (λ s. Visits (sheet_book self.now) s.0 order.first order.place × Visits (sheet_book self.now) s.1 order.second order.place) }
+        ensures room { OnOk result (length (precedences_of self.now) < 2048) }
     {
-        if !self.tables.has_carrier(first) || !self.tables.has_carrier(second) {
-            return Err(EntryRefusal::NoCarrier);
-        }
-        if first == second {
-            return Err(EntryRefusal::SameCarrier);
-        }
-        let Some(first_stop) = self.tables.stop_at(first, place) else {
-            return Err(EntryRefusal::NotOnBothRoutes);
-        };
-        let Some(second_stop) = self.tables.stop_at(second, place) else {
-            return Err(EntryRefusal::NotOnBothRoutes);
-        };
-        if self.tables.is_goal(first, place) || self.tables.is_start(second, place) {
+        let (first, second) = self.tables.pair(order)?;
+        let first_stop = self.tables.stop_at(order.visit_of(order.first))?;
+        let second_stop = self.tables.stop_at(order.visit_of(order.second))?;
+        if first.goal == order.place || second.start == order.place {
             return Err(EntryRefusal::FirstsGoalOrSecondsStart);
         }
-        if self.tables.is_decided(first, second, place) {
+        if self.tables.is_decided(order) {
             return Err(EntryRefusal::AlreadyDecided);
         }
-        if self.tables.are_precedences_full() {
+        if self.tables.precedences.is_full() {
             return Err(EntryRefusal::LimitReached);
         }
-        Ok((first_stop as u16, second_stop as u16))
+        Ok((first_stop, second_stop))
     }
 
     // Checks whether a precedence may be struck, and answers its index.
-    fn check_strike(&self, first: u8, second: u8, place: u16) -> Result<usize, EntryRefusal>
-        ensures checked { Checked (book_of self.now.tables) (strike_precedence first second place) result }
-        ensures stands { IfOk result (λ k. Stands (book_of self.now.tables) k first second place) }
-        ensures within { IfOk result (λ k. k < vec_len self.now.tables.precedences) }
+    fn check_strike(&self, order: Order) -> Result<usize, EntryRefusal>
+        ensures checked { Checked (sheet_book self.now) (strike_precedence order.first order.second order.place) result }
+        ensures stands { IfOk result (λ k. Stands (sheet_book self.now) k order.first order.second order.place) }
+        ensures within { IfOk result (λ k. k < length (precedences_of self.now)) }
     {
-        if !self.tables.has_carrier(first) || !self.tables.has_carrier(second) {
-            return Err(EntryRefusal::NoCarrier);
-        }
-        if first == second {
-            return Err(EntryRefusal::SameCarrier);
-        }
-        match self.tables.index_of(first, second, place) {
-            Some(index) => Ok(index),
-            None => Err(EntryRefusal::NothingToStrike),
-        }
+        self.tables.pair(order)?;
+        find(self.precedences(), &order).ok_or(EntryRefusal::NothingToStrike)
     }
 
     // Enters a carrier, with its first stop at its start, and answers its number.
     pub fn enter_carrier(&mut self, start: u16, goal: u16) -> Result<u16, EntryRefusal>
-        ensures answers { Answers (book_of self.old.tables) (enter_carrier start goal) result }
-        ensures leaves { Leaves (book_of self.old.tables) (enter_carrier start goal) result (book_of self.new.tables) }
+        ensures answers { Answers (sheet_book self.old) (enter_carrier start goal) result }
+        ensures leaves { Leaves (sheet_book self.old) (enter_carrier start goal) result (sheet_book self.new) }
         ensures unchanged { OnErr result (self.new ≡ self.old) }
-        ensures goes_on { Continues (book_of self.old.tables) (enter_carrier start goal) result (book_of self.new.tables) }
+        ensures goes_on { Continues (sheet_book self.old) (enter_carrier start goal) result (sheet_book self.new) }
     {
         self.check_carrier(start, goal)?;
+        // `as` loses nothing here and below: the limits are small. `try_from` would add a refusal that cannot come.
         let number = self.tables.carriers.len() as u8;
         let stop = self.tables.stops.len() as u16;
-        self.tables.carriers.push_reserved(Carrier {
-            start,
-            goal,
-            last_stop: stop,
-            last_place: start,
-        });
-        self.tables.stops.push_reserved(Stop {
-            carrier: number,
-            place: start,
-            previous: None,
-        });
+        self.tables
+            .carriers
+            .push(Carrier {
+                start,
+                goal,
+                last_stop: stop,
+                last_place: start,
+            })
+            .unwrap();
+        self.tables
+            .stops
+            .push(Stop {
+                carrier: number,
+                place: start,
+                previous: None,
+            })
+            .unwrap();
         Ok(u16::from(number))
     }
 
     // Enters a carrier's next stop, and answers the stop's number.
     pub fn enter_stop(&mut self, carrier: u8, place: u16) -> Result<u16, EntryRefusal>
-        ensures answers { Answers (book_of self.old.tables) (enter_stop carrier place) result }
-        ensures leaves { Leaves (book_of self.old.tables) (enter_stop carrier place) result (book_of self.new.tables) }
+        ensures answers { Answers (sheet_book self.old) (enter_stop carrier place) result }
+        ensures leaves { Leaves (sheet_book self.old) (enter_stop carrier place) result (sheet_book self.new) }
         ensures unchanged { OnErr result (self.new ≡ self.old) }
-        ensures goes_on { Continues (book_of self.old.tables) (enter_stop carrier place) result (book_of self.new.tables) }
+        ensures goes_on { Continues (sheet_book self.old) (enter_stop carrier place) result (sheet_book self.new) }
         ensures records { IfOk result (λ stop. OnlyGoesOn self.old.tables carrier stop place self.new.tables) }
     {
-        self.check_stop(carrier, place)?;
+        self.check_stop(Visit { carrier, place })?;
         let number = self.tables.stops.len() as u16;
-        let previous = Some(self.tables.carriers[carrier as usize].last_stop);
-        self.tables.carriers[carrier as usize].go_on(number, place);
-        self.tables.stops.push_reserved(Stop {
-            carrier,
-            place,
-            previous,
-        });
+        let carrier_record = &mut self.tables.carriers[usize::from(carrier)];
+        let previous = Some(carrier_record.last_stop);
+        carrier_record.go_on(number, place);
+        self.tables
+            .stops
+            .push(Stop {
+                carrier,
+                place,
+                previous,
+            })
+            .unwrap();
         Ok(number)
     }
 
@@ -353,19 +283,27 @@ impl Sheet {
         second: u8,
         place: u16,
     ) -> Result<u16, EntryRefusal>
-        ensures answers { Answers (book_of self.old.tables) (enter_precedence first second place) result }
-        ensures leaves { Leaves (book_of self.old.tables) (enter_precedence first second place) result (book_of self.new.tables) }
+        ensures answers { Answers (sheet_book self.old) (enter_precedence first second place) result }
+        ensures leaves { Leaves (sheet_book self.old) (enter_precedence first second place) result (sheet_book self.new) }
         ensures unchanged { OnErr result (self.new ≡ self.old) }
-        ensures goes_on { Continues (book_of self.old.tables) (enter_precedence first second place) result (book_of self.new.tables) }
+        ensures goes_on { Continues (sheet_book self.old) (enter_precedence first second place) result (sheet_book self.new) }
     {
-        let (first_stop, second_stop) = self.check_precedence(first, second, place)?;
-        self.tables.precedences.push_reserved(Precedence {
+        let order = Order {
             first,
             second,
             place,
-            first_stop,
-            second_stop,
-        });
+        };
+        let (first_stop, second_stop) = self.check_precedence(order)?;
+        self.tables
+            .precedences
+            .push(Precedence {
+                first,
+                second,
+                place,
+                first_stop,
+                second_stop,
+            })
+            .unwrap();
         Ok(self.tables.precedences.len() as u16)
     }
 
@@ -376,13 +314,18 @@ impl Sheet {
         second: u8,
         place: u16,
     ) -> Result<u16, EntryRefusal>
-        ensures answers { Answers (book_of self.old.tables) (strike_precedence first second place) result }
-        ensures leaves { Leaves (book_of self.old.tables) (strike_precedence first second place) result (book_of self.new.tables) }
+        ensures answers { Answers (sheet_book self.old) (strike_precedence first second place) result }
+        ensures leaves { Leaves (sheet_book self.old) (strike_precedence first second place) result (sheet_book self.new) }
         ensures unchanged { OnErr result (self.new ≡ self.old) }
-        ensures goes_on { Continues (book_of self.old.tables) (strike_precedence first second place) result (book_of self.new.tables) }
+        ensures goes_on { Continues (sheet_book self.old) (strike_precedence first second place) result (sheet_book self.new) }
     {
-        let index = self.check_strike(first, second, place)?;
-        self.tables.remove_precedence(index);
+        let order = Order {
+            first,
+            second,
+            place,
+        };
+        let index = self.check_strike(order)?;
+        self.tables.precedences.remove(index).unwrap();
         Ok(self.tables.precedences.len() as u16)
     }
 }

@@ -1,6 +1,0 @@
-use Rattle.std.proofs.lemmas.Option.{slice_get_read}
-use Rattle.sheet.proofs.Told.{start_told}
-use Rattle.sheet.proofs.sheets.Tables.is_start.Goals as goal
-
-pub returns : goal.returns
-returns c = start_told c.args.self.now _ _ (slice_get_read _ _ _ _ c.args.self.now.carriers.ok.0 c.requires c.index.ensures) _
