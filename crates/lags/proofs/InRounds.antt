@@ -1,19 +1,16 @@
 -- A round, as the code goes through it, and the rounds one after another.
-use Rattle.std.proofs.Common.{◌≡◌, ℕ, ◌+◌, ◌*◌, ◌^◌, ◌<◌, ◌≤◌, Bool, true, false, cond, List, length, set, pos, ◌+ℤ◌, Some, None, Option, sym, ap, ◌∙◌, subst, ⊎_elim, zero-mul, arith}
-use lib.Signed.{lt_z}
+use Rattle.std.proofs.Common.{◌≡◌, ℕ, int_lt, ◌+◌, ◌*◌, ◌<◌, ◌≤◌, Bool, true, false, cond, List, length, set, pos, ◌+ℤ◌, Some, Option, sym, ap, ◌∙◌, subst, ⊎_elim, zero-mul, arith}
 use Rattle.std.proofs.lemmas.Int.{ints}
-use Rattle.std.proofs.lemmas.List.{get_or-set_same, get_or-set_other}
-use Rattle.std.proofs.ByRecursion.{All-from_get_or}
+use Rattle.std.proofs.lemmas.List.{length-set, get_or-set_same, get_or-set_other}
+use Rattle.std.proofs.lemmas.List.Elements.{All-from_get_or}
+use Rattle.std.proofs.lemmas.Option.{none-some}
 use Rattle.std.proofs.lemmas.Bool.{cases_eq}
 use Rattle.lags.specs.declared.Lag.{Lag}
 use Rattle.lags.specs.Solved.{at, Allowed}
 use Rattle.lags.specs.Times.{LessThan, Exactly, after}
-use Rattle.lags.specs.Progress.{lag_at, no_lag, Kept, Keeps, Progress, Moved, Low, InRound}
+use Rattle.lags.specs.Progress.{lag_at, no_lag, Kept, Progress, Round, Low, InRound}
 use Rattle.lags.proofs.Times.{after_is, called_for, not_called_for}
 use Rattle.lags.proofs.Raises.{progress_none, progress_round, progress_kept, progress_raised, progress_raised_when}
-
-not_some : (v : ℕ) → Some v ≡ None → ⊥
-not_some v e = let z : ◌≡◌ {A = ℕ} 0 1 = cc in omega arith
 
 -- what stands in a list after a write
 module _ (xs : List ℕ) (v x : ℕ) (in' : v < length xs) where
@@ -25,7 +22,7 @@ module _ (xs : List ℕ) (v x : ℕ) (in' : v < length xs) where
 
 -- one more lag of a round, which is g
 module _ (lags : List Lag) (α₀ p₀ α p : List ℕ) (i : ℕ) (raised : Option ℕ) (h : InRound lags α₀ p₀ α p i raised) (in' : i < length lags) (g : Lag) (is : lag_at lags i ≡ g)
-    (allowed : Allowed (length α₀) g) (same : length α ≡ length α₀) (wide : length α₀ ≤ length p) where
+    (allowed : Allowed (length α₀) g) (same : length α ≡ length α₀) (few : length α₀ ≤ 1024) where
   abbrev reach : ℕ
   reach = after (at α g.from) g.weight
 
@@ -36,6 +33,7 @@ module _ (lags : List Lag) (α₀ p₀ α p : List ℕ) (i : ℕ) (raised : Opti
     progress = λ base t. record { progress = progress_kept lags base i (at α) (at p) (h.progress base t).progress (rw is k); moved = (h.progress base t).moved };
     quiet = λ q j l. ⊎_elim (λ e. subst (Kept (at α)) (sym (ap (lag_at lags) e ∙ is)) k) (λ ne. h.quiet q j (omega arith)) (cases_eq j i);
     within = h.within;
+    size = h.size;
   }
 
   module _ (short : LessThan (at α g.from) g.weight (at α g.to)) where
@@ -43,7 +41,7 @@ module _ (lags : List Lag) (α₀ p₀ α p : List ℕ) (i : ℕ) (raised : Opti
     a_in = omega (arith, allowed.0)
 
     p_in : g.to < length p
-    p_in = omega (arith, allowed.0)
+    p_in = omega (arith, allowed.0, h.size)
 
     reached : (v : ℕ) → v ≡ g.to → Exactly (at α g.from) g.weight (at (set α g.to reach) v)
     reached v e = rw (at_here α g.to reach a_in v e) (after_is short)
@@ -60,31 +58,25 @@ module _ (lags : List Lag) (α₀ p₀ α p : List ℕ) (i : ℕ) (raised : Opti
               (at_else α g.to reach a_in) (at_here p g.to i p_in) (at_else p g.to i p_in),
         );
       };
-      quiet = λ q. absurd (not_some g.to q);
+      quiet = λ q. absurd (none-some g.to (sym q));
       within = allowed.0.1;
+      size = length-set p g.to i ∙ h.size;
     }
 
   -- as the code has it: the test, and what the arrivals, the parents and the node raised last are then
-  pub round_more : (r : Bool) (α' p' : List ℕ) (raised' : Option ℕ) → r ≡ lt_z (pos (at α g.to)) (pos (at α g.from) +ℤ g.weight) → α' ≡ cond r (set α g.to reach) α
+  pub round_more : (r : Bool) (α' p' : List ℕ) (raised' : Option ℕ) → r ≡ int_lt (pos (at α g.to)) (pos (at α g.from) +ℤ g.weight) → α' ≡ cond r (set α g.to reach) α
       → p' ≡ cond r (set p g.to i) p → raised' ≡ cond r (Some g.to) raised → InRound lags α₀ p₀ α' p' (i + 1) raised'
   round_more true α' p' raised' e a b q = simp (a, b, q) (step_raised (called_for (sym e)))
   round_more false α' p' raised' e a b q = simp (a, b, q) (step_kept (not_called_for (sym e)))
 
--- the start and the end of a round
-pub round_none : (lags : List Lag) (α p : List ℕ) → Low α (2 ^ 59) → InRound lags α p α p 0 None
-round_none lags α p l = record { low = λ v. omega (arith, l v); progress = λ base t. record { progress = t; moved = tt }; quiet = λ q j h. absurd (omega arith); within = tt }
+-- the end of a round
+pub round_all : (lags : List Lag) (α₀ p₀ α p : List ℕ) (i : ℕ) (raised : Option ℕ) → i ≡ length lags → InRound lags α₀ p₀ α p i raised → Round lags α₀ p₀ α p raised
+unfolding progress_round
+round_all lags α₀ p₀ α p i raised e h = record {
+  progress = λ base t. let r = rw e at (h.progress base t) in record { progress = progress_round lags base (at α) (at p) r.progress; moved = r.moved };
+  quiet = λ q. All-from_get_or (Kept (at α)) lags no_lag (λ j l. h.quiet q j (omega arith));
+}
 
-module _ (lags : List Lag) (α₀ p₀ α p : List ℕ) (i : ℕ) (raised : Option ℕ) (e : i ≡ length lags) (h : InRound lags α₀ p₀ α p i raised) where
-  pub round_all : (base : ℕ) → Progress lags base 0 (at α₀) (at p₀) → Moved lags (base + length lags) 0 (at α) (at p) base raised
-  unfolding progress_round
-  round_all base t = let r = rw e at (h.progress base t) in record { progress = progress_round lags base (at α) (at p) r.progress; moved = r.moved }
-
-  pub round_quiet : raised ≡ None → Keeps lags (at α)
-  round_quiet q = All-from_get_or (Kept (at α)) lags no_lag (λ j l. h.quiet q j (omega arith))
-
--- no rounds, and one more
+-- no rounds
 pub rounds_none : (lags : List Lag) (α : List ℕ) (p : ℕ → ℕ) → Low α 0 → Progress lags (0 * length lags) 0 (at α) p
 rounds_none lags α p z = rw zero-mul (progress_none lags (at α) p (λ v. omega (arith, z v)))
-
-pub rounds_more : (lags : List Lag) (k : ℕ) (a p : ℕ → ℕ) → Progress lags (k * length lags + length lags) 0 a p → Progress lags ((k + 1) * length lags) 0 a p
-rounds_more lags k a p t = let e : (k + 1) * length lags ≡ k * length lags + length lags = omega arith in rw e t

@@ -1,6 +1,6 @@
 pub mod Times
 pub mod Ways
-pub mod Pigeons
+pub mod Distincts
 pub mod Raises
 pub mod InRounds
 pub mod Marks
@@ -10,4 +10,3 @@ pub mod Settles
 pub mod OverrunTraces
 pub mod Turns
 pub mod Reversals
-pub mod Fits

@@ -1,6 +1,5 @@
 -- The laws of times and lags: what the other proofs know of numbers and integers.
-use Rattle.std.proofs.Common.{◌≡◌, ℕ, ◌<◌, ◌≤◌, true, false, ℤ, pos, negsuc, ◌+ℤ◌, ◌<ℤ◌, refl, arith}
-use lib.Signed.{lt_z}
+use Rattle.std.proofs.Common.{◌≡◌, ℕ, int_lt, ◌<◌, ◌≤◌, true, false, ℤ, pos, negsuc, ◌+ℤ◌, ◌<ℤ◌, refl, arith}
 use Rattle.std.proofs.lemmas.Int.{ints}
 use Rattle.lags.specs.Times.{AtLeast, AtMost, LessThan, Exactly, after}
 
@@ -75,10 +74,10 @@ after_is {x} {y} {w} h = record { so = is x y w h.so }
     is x y (negsuc n) h = omega (arith, ints)
 
 -- the test whether a lag calls for a later time
-pub called_for : {x y : ℕ} {w : ℤ} → lt_z (pos y) (pos x +ℤ w) ≡ true → LessThan x w y
+pub called_for : {x y : ℕ} {w : ℤ} → int_lt (pos y) (pos x +ℤ w) ≡ true → LessThan x w y
 called_for h = record { so = grind (arith, ints) }
 
-pub not_called_for : {x y : ℕ} {w : ℤ} → lt_z (pos y) (pos x +ℤ w) ≡ false → AtLeast x w y
+pub not_called_for : {x y : ℕ} {w : ℤ} → int_lt (pos y) (pos x +ℤ w) ≡ false → AtLeast x w y
 not_called_for h = record { so = grind (arith, ints) }
 
 pub not_both : {x y : ℕ} {w : ℤ} → AtLeast x w y → LessThan x w y → ⊥

@@ -1,6 +1,6 @@
 -- What is kept while arrivals are raised, lag after lag and round after round.
 use Rattle.std.specs.Prelude.{◌≡◌, ℕ, ◌+◌, ◌*◌, ◌^◌, ◌<◌, ◌≤◌, ◌⊎◌, List, length, pos, IfSome, None, Option, slice_index_or}
-use Rattle.std.specs.List.{AllByRecursion}
+use Rattle.std.specs.List.{All}
 use Rattle.lags.specs.declared.Lag.{Lag}
 use Rattle.lags.specs.Solved.{at}
 use Rattle.lags.specs.Times.{AtLeast, AtMost, LessThan}
@@ -17,7 +17,7 @@ abbrev pub Kept : (ℕ → ℕ) → Lag → Type 0
 Kept a g = AtLeast (a g.from) g.weight (a g.to)
 
 abbrev pub Keeps : List Lag → (ℕ → ℕ) → Type 0
-Keeps lags a = AllByRecursion (Kept a) lags
+Keeps lags a = All (Kept a) lags
 
 -- v was raised last by the lag g, its parent; `when` has the step of each node's last raise, and a round has `many` steps
 pub record RaisedBy (a when : ℕ → ℕ) (many v : ℕ) (g : Lag) : Type 0 where
@@ -52,9 +52,15 @@ pub record Moved (lags : List Lag) (base i : ℕ) (a p : ℕ → ℕ) (from : �
 abbrev pub Low : List ℕ → ℕ → Type 0
 Low α top = (v : ℕ) → at α v ≤ top
 
+-- a round through all lags has led from the arrivals α and the parents p to α' and p', and raised r last, if any
+pub record Round (lags : List Lag) (α p α' p' : List ℕ) (r : Option ℕ) : Type 0 where
+  pub progress : (base : ℕ) → Progress lags base 0 (at α) (at p) → Moved lags (base + length lags) 0 (at α') (at p') base r
+  pub quiet : r ≡ None → Keeps lags (at α')
+
 -- a round that began at the arrivals α₀ with the parents p₀, has gone through i lags and raised r last, if any
 pub record InRound (lags : List Lag) (α₀ p₀ α p : List ℕ) (i : ℕ) (r : Option ℕ) : Type 0 where
   pub low : Low α (2 ^ 59 + 100000 * i)
   pub progress : (base : ℕ) → Progress lags base 0 (at α₀) (at p₀) → Moved lags base i (at α) (at p) base r
   pub quiet : r ≡ None → (j : ℕ) → j < i → Kept (at α) (lag_at lags j)
   pub within : IfSome r (λ v. v < length α₀)
+  pub size : length p ≡ 1024

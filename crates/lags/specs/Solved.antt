@@ -1,14 +1,14 @@
 -- What the solver answers for a list of lags.
-use Rattle.std.specs.Prelude.{◌≡◌, ℕ, ◌-◌, ◌*◌, ◌<◌, ◌≤◌, List, length, take, drop, ℤ, pos, negsuc, ◌≤ℤ◌, slice_index}
-use Rattle.std.specs.List.{ContainsAt, AllByRecursion}
+use Rattle.std.specs.Prelude.{◌≡◌, ℕ, ◌-◌, ◌*◌, ◌<◌, ◌≤◌, List, length, take, drop, ℤ, pos, negsuc, ◌≤ℤ◌, Ok, Err, Result, slice_index}
+use Rattle.std.specs.List.{Contains, All}
 use Rattle.lags.specs.declared.Lag.{Lag}
-use Rattle.lags.specs.declared.Outcome.{Outcome}
-use Rattle.lags.specs.declared.Outcome.TheVariants.{Settled, Ring as RingOf, Unfit}
+use Rattle.lags.specs.declared.Unsolved.{Unsolved}
+use Rattle.lags.specs.declared.Unsolved.TheVariants.{Ring as RingOf, Unfit}
 use Rattle.lags.specs.Ways.{Ring, Solution, Least}
 
 -- the list has a lag of w from s to t
 abbrev pub Listed : List Lag → ℕ → ℕ → ℤ → Type 0
-Listed lags s t w = ContainsAt lags (record { from = s; to = t; weight = w })
+Listed lags s t w = Contains lags (record { from = s; to = t; weight = w })
 
 -- the arrival at a node
 abbrev pub at : List ℕ → ℕ → ℕ
@@ -29,12 +29,12 @@ Allowed nodes g = Inside nodes g × Limited g
 pub record Fit (lags : List Lag) (nodes room : ℕ) : Type 0 where
   pub few : nodes ≤ 1024
   pub short : length lags ≤ 3072
-  pub allowed : AllByRecursion (Allowed nodes) lags
+  pub allowed : All (Allowed nodes) lags
   pub wide : nodes ≤ room
 
 -- no weight is above w
 abbrev pub Under : List Lag → ℕ → Type 0
-Under lags w = AllByRecursion (λ g. g.weight ≤ℤ pos w) lags
+Under lags w = All (λ g. g.weight ≤ℤ pos w) lags
 
 -- α has the least solution, and no arrival of it is above the longest way through all nodes
 pub record Earliest (lags : List Lag) (α : List ℕ) : Type 0 where
@@ -46,10 +46,10 @@ pub record Looped (lags : List Lag) (nodes k : ℕ) (before after : List ℕ) : 
   pub ring : Ring (Listed lags) (take k after)
   pub within : k ≤ nodes
   pub stands : drop k after ≡ drop k before
-  pub unsolvable : (α : ℕ → ℕ) → Solution (Listed lags) α → ⊥
+  pub unsolvable : (α : ℕ → ℕ) → ¬ Solution (Listed lags) α
 
 -- what the solver answers, and what it leaves in the arrivals and on the ring page
-abbrev pub Solved : List Lag → List ℕ → List ℕ → List ℕ → List ℕ → Outcome → Type 0
-Solved lags α α' page page' Settled = Fit lags (length α) (length page) × Earliest lags α' × (page' ≡ page)
-Solved lags α α' page page' (RingOf k) = Fit lags (length α) (length page) × Looped lags (length α) k page page'
-Solved lags α α' page page' Unfit = (Fit lags (length α) (length page) → ⊥) × (α' ≡ α) × (page' ≡ page)
+abbrev pub Solved : List Lag → List ℕ → List ℕ → List ℕ → List ℕ → Result (Unit {0}) Unsolved → Type 0
+Solved lags α α' page page' (Ok _) = Fit lags (length α) (length page) × Earliest lags α' × (page' ≡ page)
+Solved lags α α' page page' (Err (RingOf k)) = Fit lags (length α) (length page) × Looped lags (length α) k page page'
+Solved lags α α' page page' (Err Unfit) = (¬ Fit lags (length α) (length page)) × (α' ≡ α) × (page' ≡ page)

@@ -1,28 +1,26 @@
 -- The way back from a node that was raised, along what raised what.
-use Rattle.std.specs.Prelude.{◌≡◌, ℕ, ◌+◌, ◌-◌, ◌*◌, ◌<◌, ◌≤◌, Bool, false, List, [], ◌∷◌, ◌++◌, reverse, length, take, ℤ, pos, ◌+ℤ◌, Decides, count_by, ◌≢◌, slice_index_or}
-use Rattle.std.specs.List.{ContainsAt, AllByRecursion}
+use Rattle.std.specs.Prelude.{◌≡◌, ℕ, ◌+◌, ◌*◌, ◌<◌, ◌≤◌, Bool, false, List, [], ◌∷◌, ◌++◌, reverse, length, take, ℤ, pos, ◌+ℤ◌, ◌↔◌, Option, Some, None, IsTrue, count_by, ◌≢◌, slice_index_or}
+use Rattle.std.specs.List.{Contains, All, AllPairs}
 use Rattle.lags.specs.declared.Lag.{Lag}
 use Rattle.lags.specs.Solved.{at}
 use Rattle.lags.specs.Progress.{lag_at, RaisedBy, Progress}
 
 abbrev pub Distinct : List ℕ → Type 0
-Distinct [] = Unit {0}
-Distinct (x ∷ xs) = AllByRecursion (λ y. x ≢ y) xs × Distinct xs
+Distinct xs = AllPairs (λ x y. x ≢ y) xs
 
 -- some lag ends at v
 abbrev pub End : List Lag → ℕ → Type 0
-End lags v = (g : Lag) × ContainsAt lags g × (g.to ≡ v)
+End lags v = (g : Lag) × Contains lags g × (g.to ≡ v)
 
 -- the lags end at m nodes: as many as there are marks, and the marked nodes are the ends
 pub record EndCount (lags : List Lag) (m : ℕ) : Type 0 where
   pub marks : List Bool
-  pub marked : (v : ℕ) → Decides (slice_index_or marks v false) (End lags v)
+  pub marked : (v : ℕ) → IsTrue (slice_index_or marks v false) ↔ End lags v
   pub many : m ≡ count_by (λ b. b) marks
 
--- the first i lags end at n nodes, which are marked
-pub record Marking (lags : List Lag) (i : ℕ) (marks : List Bool) (n : ℕ) : Type 0 where
-  pub marked : (v : ℕ) → Decides (slice_index_or marks v false) (End (take i lags) v)
-  pub many : n ≡ count_by (λ b. b) marks
+-- the marked nodes are those where the first i lags end
+pub record Marking (lags : List Lag) (i : ℕ) (marks : List Bool) : Type 0 where
+  pub marked : (v : ℕ) → IsTrue (slice_index_or marks v false) ↔ End (take i lags) v
   pub size : length marks ≡ 1024
 
 -- one more round than the lags end at nodes was made, each raised something, and the last of them raised v last
@@ -56,7 +54,7 @@ module _ (lags : List Lag) (p : ℕ → ℕ) where
   -- the way back from v, through distinct nodes that were raised
   pub record Traced (a when : ℕ → ℕ) (v : ℕ) (xs : List ℕ) (u : ℕ) : Type 0 where
     pub way : Back v xs u
-    pub raised : AllByRecursion (ByParent a when) xs
+    pub raised : All (ByParent a when) xs
     pub distinct : Distinct xs
 
   -- the way back after an overrun, short enough that u was raised too
@@ -73,17 +71,16 @@ module _ (lags : List Lag) (p : ℕ → ℕ) where
     pub traced : Traced a when node xs node
     pub some : 0 < length xs
 
--- the places have for each node one more than where it stands in xs, and 0 for every other
-pub record Placed (xs places : List ℕ) : Type 0 where
-  pub seen : AllByRecursion (λ y. 0 < at places y) xs
-  pub stands : (y : ℕ) → 0 < at places y → (at places y ≤ length xs) × (at xs (at places y - 1) ≡ y)
+-- the places have for each node where it stands in xs, and none for every other
+pub record Placed (xs : List ℕ) (places : List (Option ℕ)) : Type 0 where
+  pub seen : All (λ y. slice_index_or places y None ≢ None) xs
+  pub stands : (y k : ℕ) → slice_index_or places y None ≡ Some k → (k < length xs) × (at xs k ≡ y)
 
--- the way back from v has come to x; its nodes are the first of an array, and another has their places
-pub record Tracing (lags : List Lag) (parents : List ℕ) (v : ℕ) (nodes places : List ℕ) (len x : ℕ) : Type 0 where
-  pub trace : OverrunTrace lags (at parents) v (take len nodes) x
-  pub placed : Placed (take len nodes) places
-  pub inside : x < length parents
-  pub room : len ≤ length parents
+-- the way back from v through the nodes xs has come to x, one of the first `nodes`
+pub record Tracing (lags : List Lag) (p : ℕ → ℕ) (nodes v : ℕ) (xs : List ℕ) (places : List (Option ℕ)) (x : ℕ) : Type 0 where
+  pub trace : OverrunTrace lags p v xs x
+  pub placed : Placed xs places
+  pub inside : x < nodes
   pub size : length places ≡ 1024
 
 -- the numbers in the opposite order, going round from the lowest
@@ -93,4 +90,4 @@ pub record Turned (xs ys : List ℕ) : Type 0 where
   pub rest : List ℕ
   pub splits : xs ≡ front ++ low ∷ rest
   pub turns : ys ≡ low ∷ reverse (rest ++ front)
-  pub least : AllByRecursion (λ x. low ≤ x) xs
+  pub least : All (λ x. low ≤ x) xs

@@ -3,28 +3,22 @@
 
 ghost use Rattle.lags.specs.Solved.{Solved};
 
-use ends::count_ends;
-use limits::{MOST_NODES, is_fit};
-use rings::write_ring;
-use rounds::settle;
+use graph::{Graph, MOST_NODES};
 
-mod ends;
-mod limits;
+mod graph;
 mod rings;
-mod rounds;
 
 // A lag: the arrival at the node `to` is at least `weight` after the arrival at the node `from`.
-#[derive(Clone, Copy, PartialEq, Eq, Debug)]
+#[derive(Clone, Copy, PartialEq, Eq, Default, Debug)]
 pub struct Lag {
     pub from: u16,
     pub to: u16,
     pub weight: i32,
 }
 
+// Why lags are not solved.
 #[derive(Clone, Copy, PartialEq, Eq, Debug)]
-pub enum Outcome {
-    // The arrivals are the least that keep every lag.
-    Settled,
+pub enum Unsolved {
     // The front of the ring page is a ring of this length, so that no arrivals keep every lag.
     Ring { length: u16 },
     // There are more than 1,024 nodes or 3,072 lags, a lag leads from or to no node or has a weight outside
@@ -32,20 +26,23 @@ pub enum Outcome {
     Unfit,
 }
 
-// Works out the least arrivals at the nodes, of which there are as many as `arrivals` has numbers, or finds a ring.
+// Works out the least arrivals that keep every lag, at as many nodes as `arrivals` has numbers, or finds a ring.
 // What the arrivals hold beside a ring is left open.
-pub fn solve(lags: &[Lag], arrivals: &mut [u64], ring: &mut [u16]) -> Outcome
+pub fn solve(lags: &[Lag], arrivals: &mut [u64], ring: &mut [u16]) -> Result<(), Unsolved>
     ensures { Solved lags.now arrivals.old arrivals.new ring.old ring.new result }
 {
-    if !is_fit(lags, arrivals.len(), ring.len()) {
-        return Outcome::Unfit;
+    if ring.len() < arrivals.len() {
+        return Err(Unsolved::Unfit);
     }
+    let graph = Graph::new(lags, arrivals.len()).ok_or(Unsolved::Unfit)?;
     arrivals.fill(0);
-    let mut parents = [0u16; MOST_NODES];
-    match settle(lags, count_ends(lags), arrivals, &mut parents) {
-        None => Outcome::Settled,
-        Some(node) => Outcome::Ring {
-            length: write_ring(lags, &parents, node, ring),
-        },
+    // The number of the lag that raised each node last, beside the arrivals, which are the caller's. No number stands for
+    // "none": a node that was never raised is never read, as is proved, and an Option would be a test that never fails.
+    let mut parents = [0; MOST_NODES];
+    match graph.settle(arrivals, &mut parents) {
+        None => Ok(()),
+        Some(node) => Err(Unsolved::Ring {
+            length: graph.write_ring(&parents, node, ring),
+        }),
     }
 }

@@ -9,13 +9,13 @@ const NEVER: i64 = -1000000000;
 // The greatest weight of a lag from each node to each, and 0 from each to itself.
 fn lag_table(lags: &[Lag]) -> [[i64; NODES]; NODES] {
     let mut table = [[NEVER; NODES]; NODES];
-    for i in 0..NODES {
-        table[i][i] = 0;
+    for (node, row) in table.iter_mut().enumerate() {
+        row[node] = 0;
     }
     for lag in lags {
-        let (s, t) = (lag.from as usize, lag.to as usize);
-        if s < NODES && t < NODES {
-            table[s][t] = table[s][t].max(lag.weight as i64);
+        let (from, to) = (usize::from(lag.from), usize::from(lag.to));
+        if from < NODES && to < NODES {
+            table[from][to] = table[from][to].max(i64::from(lag.weight));
         }
     }
     table
@@ -25,9 +25,11 @@ fn lag_table(lags: &[Lag]) -> [[i64; NODES]; NODES] {
 fn longest_ways(lags: &[Lag]) -> [[i64; NODES]; NODES] {
     let mut ways = lag_table(lags);
     for via in 0..NODES {
-        for s in 0..NODES {
-            for t in 0..NODES {
-                ways[s][t] = ways[s][t].max(ways[s][via].wrapping_add(ways[via][t]));
+        let onward = ways[via];
+        for row in &mut ways {
+            let there = row[via];
+            for (way, rest) in row.iter_mut().zip(&onward) {
+                *way = (*way).max(there.wrapping_add(*rest));
             }
         }
     }
@@ -38,14 +40,12 @@ fn longest_ways(lags: &[Lag]) -> [[i64; NODES]; NODES] {
 pub(crate) fn longest_arrivals(lags: &[Lag]) -> Option<[u64; NODES]> {
     let ways = longest_ways(lags);
     let mut arrivals = [0; NODES];
-    for t in 0..NODES {
-        if ways[t][t] > 0 {
+    for (from, row) in ways.iter().enumerate() {
+        if row[from] > 0 {
             return None;
         }
-        for s in 0..NODES {
-            if ways[s][t] > 0 {
-                arrivals[t] = arrivals[t].max(ways[s][t] as u64);
-            }
+        for (arrival, way) in arrivals.iter_mut().zip(row) {
+            *arrival = (*arrival).max(u64::try_from(*way).unwrap_or(0));
         }
     }
     Some(arrivals)

@@ -15,10 +15,10 @@ pub(crate) fn fill_ring(lags: &mut [Lag], step: usize, sum: i32)
 {
     let n = lags.len();
     let mut rest = sum;
-    for i in 0..n {
+    for (i, lag) in lags.iter_mut().enumerate() {
         let weight = if i + 1 < n { (i % 7) as i32 - 3 } else { rest };
         rest = rest.wrapping_sub(weight);
-        lags[i] = Lag {
+        *lag = Lag {
             from: (i.wrapping_mul(step) % n) as u16,
             to: ((i + 1).wrapping_mul(step) % n) as u16,
             weight,
@@ -31,8 +31,8 @@ pub(crate) fn fill_chain(lags: &mut [Lag], sum: i32)
     requires { length lags.old ≤ 1024 }
 {
     let n = lags.len();
-    for i in 0..n {
-        lags[i] = if i + 1 < n {
+    for (i, lag) in lags.iter_mut().enumerate() {
+        *lag = if i + 1 < n {
             Lag {
                 from: (n - 2 - i) as u16,
                 to: (n - 1 - i) as u16,
@@ -52,23 +52,17 @@ pub(crate) fn fill_chain(lags: &mut [Lag], sum: i32)
 pub(crate) fn fill_chain_arrivals(arrivals: &mut [u64])
     requires { length arrivals.old ≤ 1024 }
 {
-    for i in 0..arrivals.len() {
-        arrivals[i] = 3 * i as u64;
+    for (i, arrival) in arrivals.iter_mut().enumerate() {
+        *arrival = 3 * i as u64;
     }
 }
 
 // The greatest weight of a lag from one node to another, if there is such a lag.
 fn greatest_weight(lags: &[Lag], from: u16, to: u16) -> Option<i32> {
-    let mut most = None;
-    for lag in lags {
-        if lag.from == from && lag.to == to {
-            most = match most {
-                Some(weight) if lag.weight <= weight => Some(weight),
-                _ => Some(lag.weight),
-            };
-        }
-    }
-    most
+    lags.iter()
+        .filter(|lag| lag.from == from && lag.to == to)
+        .map(|lag| lag.weight)
+        .max()
 }
 
 // Whether the nodes are distinct and the lowest is first.
@@ -84,16 +78,11 @@ fn is_distinct_from_lowest(nodes: &[u16]) -> bool {
 // Whether the nodes are a ring of the lags with a sum above 0, from the lowest on.
 pub(crate) fn is_ring(lags: &[Lag], nodes: &[u16]) -> bool {
     let mut sum = 0i64;
-    for (i, node) in nodes.iter().enumerate() {
-        let next = if i + 1 < nodes.len() {
-            nodes[i + 1]
-        } else {
-            nodes[0]
+    for (node, next) in nodes.iter().zip(nodes.iter().skip(1).chain(nodes)) {
+        let Some(weight) = greatest_weight(lags, *node, *next) else {
+            return false;
         };
-        match greatest_weight(lags, *node, next) {
-            None => return false,
-            Some(weight) => sum = sum.wrapping_add(weight as i64),
-        }
+        sum = sum.wrapping_add(i64::from(weight));
     }
     sum > 0 && is_distinct_from_lowest(nodes)
 }
