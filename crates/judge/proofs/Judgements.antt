@@ -1,5 +1,5 @@
 -- From what judging found to what it answers, in the words of the subject.
-use Rattle.std.proofs.Common.{◌≡◌, ℕ, ◌-◌, ◌*◌, ◌≤◌, max, Bool, true, false, cond, eqb, ◌⊎◌, List, length, get_or, ℤ, IfSome, is_ok, Some, None, Ok, Err, vec_items, Option, Result, sym, refl, ap, ◌∙◌, subst, inl, inr, ⊎_elim, lt_of_not-le, arith}
+use Rattle.std.proofs.Common.{◌≡◌, ℕ, ◌-◌, ◌*◌, ◌≤◌, max, Bool, true, false, cond, eqb, ◌⊎◌, List, length, get_or, ℤ, IfSome, is_ok, Some, None, Ok, Err, Option, Result, sym, refl, ap, ◌∙◌, subst, inl, inr, ⊎_elim, lt_of_not-le, arith}
 use native.Mathlib.Nat.{le-min, min-le_left, min-le_right}
 use Rattle.std.proofs.lemmas.List.{length-map}
 use Rattle.std.proofs.lemmas.Int.{ints}
@@ -12,19 +12,20 @@ use Rattle.sheet.specs.declared.records.Stop.{Stop}
 use Rattle.sheet.specs.declared.sheets.Sheet.{Sheet}
 use Rattle.sheet.specs.Book.{Book, GoalOf, Visits, Next, Starts}
 use Rattle.sheet.specs.Records.{book_stop, no_stop}
-use Rattle.sheet.specs.Sheets.{sheet_book}
+use Rattle.sheet.specs.Sheets.{carriers_of, stops_of, precedences_of, sheet_book}
 use Rattle.sheet.proofs.Facts as facts
 use Rattle.plan.specs.Lags.{Lag, travel, wait}
 use Rattle.plan.specs.Plans.{Lanes, Gaps, Earliest, Possible, Complete, Opposed}
 use Rattle.plan.specs.Theorems.{Orderly, Positive, FromZero}
-use Rattle.plan.proofs.Heart.{decide_in}
+use Rattle.plan.proofs.Decided.{decide_in}
 use Rattle.judge.specs.declared.refusal.JudgeRefusal.{JudgeRefusal}
 use Rattle.judge.specs.declared.refusal.JudgeRefusal.TheVariants.{PageTooShort, NotAtGoal, NoLane, Undecided, HeadOn, Ring}
 use Rattle.judge.specs.Findings.{Setting, Finding, not_at_goal, no_lane, undecided, head_on, in_a_ring, passes, Finds, Impossible}
 use Rattle.judge.specs.FindingHistories.{GoesOn}
 use Rattle.judge.specs.Judged.{Judging, Away, CutOff, UndecidedAt, PassesExactly}
 use Rattle.judge.specs.Shown.{Concludes, Shows, Concluded, room_of, setting_in}
-use Rattle.judge.specs.Legs.{Legs, NoLaneTo, ShortOfGoal}
+use Rattle.judge.specs.declared.legs.Leg.{Leg}
+use Rattle.judge.specs.Legs.{Legs, NoLaneTo, ShortOfGoal, time_to}
 use Rattle.judge.specs.Lowest.{Lowest, LowestPair}
 use Rattle.judge.specs.Meetings.{Leads, OpenMeeting, LowestOpposed}
 use Rattle.judge.specs.Routing.{Untouched, WorkedOut, TurnedDown, Routed}
@@ -47,10 +48,10 @@ module _ (sheet : Sheet) (lanes : Lanes) (gap : Gaps) (largest : ℕ) (limited :
   b = sheet_book sheet
 
   abbrev ss : List Stop
-  ss = vec_items sheet.tables.stops
+  ss = stops_of sheet
 
   abbrev ps : List Precedence
-  ps = vec_items sheet.tables.precedences
+  ps = precedences_of sheet
 
   stops_long : length b.stops ≡ length ss
   stops_long = length-map ss book_stop
@@ -84,7 +85,7 @@ module _ (sheet : Sheet) (lanes : Lanes) (gap : Gaps) (largest : ℕ) (limited :
       omega arith
 
   -- a sheet whose routes are all home
-  module _ (home : (c : ℕ) → ShortOfGoal (vec_items sheet.tables.carriers) c → ⊥) where
+  module _ (home : (c : ℕ) → ShortOfGoal (carriers_of sheet) c → ⊥) where
     all_home : (c : ℕ) → Away b c → ⊥
     all_home c a = home c (meant.short sheet c a)
 
@@ -96,13 +97,13 @@ module _ (sheet : Sheet) (lanes : Lanes) (gap : Gaps) (largest : ℕ) (limited :
         (λ ne. absurd (all_home c (record { goal = v; its_goal = g; not_reached = λ (t, at). facts.no_stop_at_goal sheet c f.0 f.1 ne t (subst (λ x. Visits b t c x) (sym f.3) at) })))
         (cases_eq f.0.last_place f.0.goal)
 
-    module _ (times : List ℕ) (nexts : List (Option ℕ)) (legs : Legs lanes ss (length ss) times nexts) where
+    module _ (legs : List Leg) (known : Legs lanes ss (length ss) legs) where
       on_lanes : (c s u t v : ℕ) → Next b c s u t v → (d : ℕ) × (lanes u v ≡ Some d)
       on_lanes c s u t v on =
           let p = meant.previous sheet lanes c s u t v on in
           let here = meant.visited sheet s c u on.here in
           let there = meant.visited sheet t c v on.there in
-          (get_or times t 0, subst (λ x. lanes x v ≡ Some (get_or times t 0)) here.2 (subst (λ y. lanes (get_or ss s no_stop).place y ≡ Some (get_or times t 0)) there.2 (legs.timed t s there.0 p)))
+          (time_to legs t, subst (λ x. lanes x v ≡ Some (time_to legs t)) here.2 (subst (λ y. lanes (get_or ss s no_stop).place y ≡ Some (time_to legs t)) there.2 (known.timed t s there.0 p)))
 
       all_on_lanes : (t : ℕ) → CutOff lanes b t → ⊥
       all_on_lanes t o = let l = on_lanes o.c o.s o.u t o.v o.step in not_some l.0 (sym l.1 ∙ o.no_lane)
@@ -120,18 +121,18 @@ module _ (sheet : Sheet) (lanes : Lanes) (gap : Gaps) (largest : ℕ) (limited :
       }
 
       abbrev Listed : ℕ → ℕ → ℤ → Type 0
-      Listed = Between gap ss times nexts ps
+      Listed = Between gap ss legs ps
 
       -- and whose meetings are all decided
       module _ (leads : List Bool) (marks : Leads ps (length ps) leads) (all_decided : (s t : ℕ) → OpenMeeting ss leads s t → ⊥) where
         complete : Complete lanes b
-        complete = record { home = reached; on_lanes = on_lanes; decided = meant.decided sheet lanes times nexts legs leads marks all_decided }
+        complete = record { home = reached; on_lanes = on_lanes; decided = meant.decided sheet lanes legs known leads marks all_decided }
 
         -- the lowest stops that are set head on
-        opposed_lowest : (s t : ℕ) → LowestOpposed ss nexts leads ps (length ps) (Some (s, t)) → LowestPair (Opposed lanes b) s t
+        opposed_lowest : (s t : ℕ) → LowestOpposed ss legs leads ps (length ps) (Some (s, t)) → LowestPair (Opposed lanes b) s t
         opposed_lowest s t (small, small_too, here, lowest) =
-            let at = meant.opposed_at sheet lanes times nexts legs leads marks in (
-              meant.opposed sheet lanes times nexts legs leads marks s t here,
+            let at = meant.opposed_at sheet lanes legs known leads marks in (
+              meant.opposed sheet lanes legs known leads marks s t here,
               λ r q h o. let n = lowest r q (at r q o) in omega (arith, n.0),
               λ q h o. let n = lowest s q (at s q o) in let m = n.1 refl in omega arith,
             )
@@ -139,23 +140,23 @@ module _ (sheet : Sheet) (lanes : Lanes) (gap : Gaps) (largest : ℕ) (limited :
         opposed_excludes : (s t : ℕ) → Opposed lanes b s t → Possible lanes gap b → ⊥
         opposed_excludes s t o (α, good) = (decide_in lanes gap b positive orderly).opposed_none s t o α good
 
-        module _ (none_set : LowestOpposed ss nexts leads ps (length ps) None) where
+        module _ (none_set : LowestOpposed ss legs leads ps (length ps) None) where
           none_opposed : (s t : ℕ) → Opposed lanes b s t → ⊥
-          none_opposed s t o = none_set s t (meant.opposed_at sheet lanes times nexts legs leads marks s t o)
+          none_opposed s t o = none_set s t (meant.opposed_at sheet lanes legs known leads marks s t o)
 
           -- the lags worked out
           earliest : (α : ℕ → ℕ) → Least Listed α → Earliest lanes gap b α
           earliest α (keeps, least) =
               let D = decide_in lanes gap b positive orderly in
-              let kept = solution_over (Lag lanes gap b) Listed (meant.lag_is sheet lanes times nexts legs gap) α keeps in
-              let least' : (β : ℕ → ℕ) → Solution (Lag lanes gap b) β → (v : ℕ) → α v ≤ β v = λ β k. least β (solution_over Listed (Lag lanes gap b) (meant.is_lag sheet lanes times nexts legs gap) β k) in
+              let kept = solution_over (Lag lanes gap b) Listed (meant.lag_is sheet lanes legs known gap) α keeps in
+              let least' : (β : ℕ → ℕ) → Solution (Lag lanes gap b) β → (v : ℕ) → α v ≤ β v = λ β k. least β (solution_over Listed (Lag lanes gap b) (meant.is_lag sheet lanes legs known gap) β k) in
               record {
                 good = D.kept_good complete none_opposed α (from_zero α (kept, least')) kept;
                 least = λ β good s h. least' β (D.good_keeps β good) s;
               }
 
           ringed : (l : List ℕ) → RingOf Listed l → RingOf (Lag lanes gap b) l
-          ringed l ring = ring_over Listed (Lag lanes gap b) (meant.is_lag sheet lanes times nexts legs gap) l ring
+          ringed l ring = ring_over Listed (Lag lanes gap b) (meant.is_lag sheet lanes legs known gap) l ring
 
           impossible : (l : List ℕ) → RingOf (Lag lanes gap b) l → Possible lanes gap b → ⊥
           impossible l ring (α, good) = (decide_in lanes gap b positive orderly).ring_none l ring α good
@@ -163,11 +164,11 @@ module _ (sheet : Sheet) (lanes : Lanes) (gap : Gaps) (largest : ℕ) (limited :
   abbrev y : Setting
   y = record { lanes = lanes; gap = gap; largest = largest }
 
-  pub found_away : (c : ℕ) → Lowest (ShortOfGoal (vec_items sheet.tables.carriers)) c → Finds y b (not_at_goal c)
-  found_away c l = lowest_as (ShortOfGoal (vec_items sheet.tables.carriers)) (Away b) (meant.away sheet) (meant.short sheet) c l
+  pub found_away : (c : ℕ) → Lowest (ShortOfGoal (carriers_of sheet)) c → Finds y b (not_at_goal c)
+  found_away c l = lowest_as (ShortOfGoal (carriers_of sheet)) (Away b) (meant.away sheet) (meant.short sheet) c l
 
   -- what is found of routes that are all home
-  module _ (p : Pages) (home : (c : ℕ) → ShortOfGoal (vec_items sheet.tables.carriers) c → ⊥) where
+  module _ (p : Pages) (home : (c : ℕ) → ShortOfGoal (carriers_of sheet) c → ⊥) where
     cut_off : (t : ℕ) → NoLaneTo lanes ss t → Finds y b (no_lane t)
     cut_off t n = (
       all_home home,
@@ -181,29 +182,29 @@ module _ (sheet : Sheet) (lanes : Lanes) (gap : Gaps) (largest : ℕ) (limited :
     unordered s t d =
         let r = d.refused in (
           all_home home,
-          all_on_lanes home d.times d.nexts d.legs,
+          all_on_lanes home d.legs d.known,
           lowest_pair_as (OpenMeeting ss r.leads) (UndecidedAt b)
-              (meant.undecided sheet lanes d.times d.nexts d.legs r.leads r.marks)
-              (meant.open_meeting sheet lanes d.times d.nexts d.legs r.leads r.marks) s t r.refused,
+              (meant.undecided sheet lanes d.legs d.known r.leads r.marks)
+              (meant.open_meeting sheet lanes d.legs d.known r.leads r.marks) s t r.refused,
         )
 
     opposing : (s t : ℕ) → TurnedDown lanes gap (max 36000 largest) ss ps p (HeadOn s t) → Finds y b (head_on s t)
     opposing s t d =
         let r = d.refused in
-        let low = opposed_lowest home d.times d.nexts d.legs r.leads r.marks r.refused.0 s t r.refused.1 in (
-          complete home d.times d.nexts d.legs r.leads r.marks r.refused.0,
+        let low = opposed_lowest home d.legs d.known r.leads r.marks r.refused.0 s t r.refused.1 in (
+          complete home d.legs d.known r.leads r.marks r.refused.0,
           low,
-          opposed_excludes home d.times d.nexts d.legs r.leads r.marks r.refused.0 s t low.0,
+          opposed_excludes home d.legs d.known r.leads r.marks r.refused.0 s t low.0,
         )
 
     passing : (n : ℕ) (w : WorkedOut lanes gap (max 36000 largest) ss ps p (Ok n)) → Finds y b (passes w.settles.1.times)
     passing n w =
         let c = w.clear in
         let t = w.settles.1 in (
-          complete home w.times w.nexts w.legs c.leads c.marks c.decided,
+          complete home w.legs w.known c.leads c.marks c.decided,
           record {
             one_each = t.one_each ∙ sym stops_long;
-            earliest = earliest home w.times w.nexts w.legs c.leads c.marks c.decided c.none_opposed (λ s. get_or t.times s 0) t.least;
+            earliest = earliest home w.legs w.known c.leads c.marks c.decided c.none_opposed (λ s. get_or t.times s 0) t.least;
             ceiling = λ s. subst (λ m. get_or t.times s 0 ≤ (m - 1) * max 36000 largest) (sym stops_long) (t.low s);
           },
         )
@@ -212,11 +213,11 @@ module _ (sheet : Sheet) (lanes : Lanes) (gap : Gaps) (largest : ℕ) (limited :
     circular k w =
         let c = w.clear in
         let r = w.settles in
-        let closed = ringed home w.times w.nexts w.legs c.leads c.marks c.decided c.none_opposed r.stops r.ring in (
-          complete home w.times w.nexts w.legs c.leads c.marks c.decided,
-          none_opposed home w.times w.nexts w.legs c.leads c.marks c.decided c.none_opposed,
+        let closed = ringed home w.legs w.known c.leads c.marks c.decided c.none_opposed r.stops r.ring in (
+          complete home w.legs w.known c.leads c.marks c.decided,
+          none_opposed home w.legs w.known c.leads c.marks c.decided c.none_opposed,
           closed,
-          impossible home w.times w.nexts w.legs c.leads c.marks c.decided c.none_opposed r.stops closed,
+          impossible home w.legs w.known c.leads c.marks c.decided c.none_opposed r.stops closed,
         )
 
   -- what is answered
@@ -243,10 +244,10 @@ module _ (sheet : Sheet) (lanes : Lanes) (gap : Gaps) (largest : ℕ) (limited :
       conclude : (r : Result ℕ JudgeRefusal) (finding : Finding) → Finds y b finding → Shows p r (Some finding) → Concluded (judging r) b
       conclude r finding finds shown = record { found = Some finding; concludes = (long f, finds); shown = shown }
 
-      pub judged_away : (c : ℕ) → Lowest (ShortOfGoal (vec_items sheet.tables.carriers)) c → Untouched p → Concluded (judging (Err (NotAtGoal c))) b
+      pub judged_away : (c : ℕ) → Lowest (ShortOfGoal (carriers_of sheet)) c → Untouched p → Concluded (judging (Err (NotAtGoal c))) b
       judged_away c l u = conclude (Err (NotAtGoal c)) (not_at_goal c) (found_away c l) (refl, u)
 
-      pub judged_routed : ((c : ℕ) → ShortOfGoal (vec_items sheet.tables.carriers) c → ⊥) → (r : Result ℕ JudgeRefusal) → Routed lanes gap (max 36000 largest) ss ps p r → Concluded (judging r) b
+      pub judged_routed : ((c : ℕ) → ShortOfGoal (carriers_of sheet) c → ⊥) → (r : Result ℕ JudgeRefusal) → Routed lanes gap (max 36000 largest) ss ps p r → Concluded (judging r) b
       judged_routed home (Ok n) w =
           let t = w.settles.1 in
           conclude (Ok n) (passes t.times) (passing p home n w) (ap Ok (w.settles.0 ∙ sym t.one_each), t.written, t.ring_stands)

@@ -1,5 +1,5 @@
 -- One more precedence, while the marks are made.
-use Rattle.std.proofs.Common.{◌≡◌, ℕ, ◌+◌, ◌*◌, ◌<◌, Bool, true, false, List, length, get_or, set, replicate, sym, ap, ◌∙◌, ⊎_elim, arith}
+use Rattle.std.proofs.Common.{◌≡◌, ℕ, ◌+◌, ◌*◌, ◌<◌, ◌≤◌, Bool, true, false, List, length, get_or, set, replicate, sym, ap, ◌∙◌, ⊎_elim, arith}
 use Rattle.judge.proofs.Alike.{all_alike}
 use Rattle.std.proofs.lemmas.Bool.{cases_eq, both_ways}
 use Rattle.std.proofs.lemmas.List.{get_or-set_same, get_or-set_other}
@@ -8,8 +8,8 @@ use Rattle.sheet.specs.Records.{no_precedence}
 use Rattle.sheet.specs.Tables.{PrecedencesInside}
 use Rattle.judge.specs.Meetings.{Leads}
 
-pub leads_more : (ps : List Precedence) (n : ℕ) (leads : List Bool) → PrecedencesInside 64 1024 ps → n < length ps → length leads ≡ 65536 → Leads ps n leads → Leads ps (n + 1) (set leads ((get_or ps n no_precedence).first_stop * 64 + (get_or ps n no_precedence).second) true)
-leads_more ps n leads inside in_ps long old =
+pub leads_more : (ps : List Precedence) (m n : ℕ) (leads : List Bool) → m ≤ 1024 → PrecedencesInside 64 m ps → n < length ps → length leads ≡ 65536 → Leads ps n leads → Leads ps (n + 1) (set leads ((get_or ps n no_precedence).first_stop * 64 + (get_or ps n no_precedence).second) true)
+leads_more ps m n leads few inside in_ps long old =
     let here = inside n in_ps in
     let at = (get_or ps n no_precedence).first_stop * 64 + (get_or ps n no_precedence).second in
     let fits : at < length leads = omega (arith, here.1, here.2) in
@@ -29,7 +29,7 @@ leads_more ps n leads inside in_ps long old =
 
 -- before the first precedence, where nothing is marked
 pub leads_none : (ps : List Precedence) (leads : List Bool) (n : ℕ) → leads ≡ replicate n false → Leads ps 0 leads
-leads_none ps leads n e = record {
+leads_none ps leads n none = rw none (record {
   marked = λ k h. absurd (omega arith);
-  meant = λ s c small h. absurd (both_ways (get_or leads (s * 64 + c) false) (ap (λ xs. get_or xs (s * 64 + c) false) e ∙ all_alike n (s * 64 + c) false) h);
-}
+  meant = λ s c small h. absurd (both_ways (get_or (replicate n false) (s * 64 + c) false) (all_alike n (s * 64 + c) false) h);
+})

@@ -1,5 +1,5 @@
 -- What judging's tables mean in the words of the book.
-use Rattle.std.proofs.Common.{◌≡◌, ℕ, ◌<◌, Bool, true, false, ◌≢◌, List, length, get_or, ℤ, pos, Some, None, vec_items, Option, sym, refl, ap, ◌∙◌, subst, inl, inr, ⊎_elim, arith}
+use Rattle.std.proofs.Common.{◌≡◌, ℕ, ◌<◌, Bool, true, false, ◌≢◌, List, length, get_or, ℤ, pos, Some, None, Option, sym, refl, ap, ◌∙◌, subst, inl, inr, ⊎_elim, arith}
 use Rattle.std.proofs.lemmas.Option.{slice_get-get_or}
 use Rattle.std.proofs.lemmas.Bool.{cases_order, both_ways, cases_Bool}
 use Rattle.std.proofs.iter.runs.Lists.{slice_get_within}
@@ -9,12 +9,13 @@ use Rattle.sheet.specs.declared.records.Stop.{Stop}
 use Rattle.sheet.specs.declared.sheets.Sheet.{Sheet}
 use Rattle.sheet.specs.Book.{Book, Visits, Stands, Decided, Next}
 use Rattle.sheet.specs.Records.{no_carrier, no_stop, no_precedence}
-use Rattle.sheet.specs.Sheets.{sheet_book}
+use Rattle.sheet.specs.Sheets.{carriers_of, stops_of, precedences_of, sheet_book}
 use Rattle.sheet.proofs.Facts as facts
 use Rattle.plan.specs.Lags.{Lag, travel, wait}
-use Rattle.plan.specs.Plans.{Lanes, Gaps, Leg, Opposed}
+use Rattle.plan.specs.Plans.{Lanes, Gaps, Opposed, Leg as LegOf}
+use Rattle.judge.specs.declared.legs.Leg.{Leg}
 use Rattle.judge.specs.Judged.{Away, CutOff, UndecidedAt}
-use Rattle.judge.specs.Legs.{Legs, Previous, lane_between, ShortOfGoal}
+use Rattle.judge.specs.Legs.{Legs, Previous, lane_between, next_after, ShortOfGoal, time_to}
 use Rattle.judge.specs.Meetings.{Leads, leads_at, OpenMeeting, OpposedBelow}
 use Rattle.judge.specs.Waits.{Between}
 
@@ -23,13 +24,13 @@ module _ (sheet : Sheet) where
   b = sheet_book sheet
 
   abbrev cs : List Carrier
-  cs = vec_items sheet.tables.carriers
+  cs = carriers_of sheet
 
   abbrev ss : List Stop
-  ss = vec_items sheet.tables.stops
+  ss = stops_of sheet
 
   abbrev ps : List Precedence
-  ps = vec_items sheet.tables.precedences
+  ps = precedences_of sheet
 
   abbrev carrier_at : ℕ → ℕ
   carrier_at t = (get_or ss t no_stop).carrier
@@ -51,7 +52,7 @@ module _ (sheet : Sheet) where
       (h, o.0, o.1)
 
   few : (t : ℕ) → t < length ss → carrier_at t < 64
-  few t h = let l = sheet.carried t h in let m = sheet.limits.0 in omega arith
+  few t h = let l = sheet.carried t h in let m = facts.few_carriers sheet in omega arith
 
   -- precedences
   stands : (k : ℕ) → k < length ps → Stands b k (the k).first (the k).second (the k).place
@@ -149,53 +150,53 @@ module _ (sheet : Sheet) where
         let none : lane_between lanes ss o.s t ≡ None = let n = o.no_lane in let x = here.2 in let y = there.2 in (cc) in
         (o.s, there.0, previous o.c o.s o.u t o.v o.step, none)
 
-    module _ (times : List ℕ) (nexts : List (Option ℕ)) (legs : Legs lanes ss (length ss) times nexts) where
+    module _ (legs : List Leg) (known : Legs lanes ss (length ss) legs) where
       -- legs
-      leg_of : (t p : ℕ) → t < length ss → Previous lanes ss t p → Leg lanes b (carrier_at t) p (place_at p) t (place_at t) (get_or times t 0)
-      leg_of t p h q = record { next = next_of t p h q; lane = legs.timed t p h q }
+      leg_of : (t p : ℕ) → t < length ss → Previous lanes ss t p → LegOf lanes b (carrier_at t) p (place_at p) t (place_at t) (time_to legs t)
+      leg_of t p h q = record { next = next_of t p h q; lane = known.timed t p h q }
 
       pub record Legged (c p u t v d : ℕ) : Type 0 where
         pub within : t < length ss
         pub step : Previous lanes ss t p
         pub from_place : place_at p ≡ u
         pub to_place : place_at t ≡ v
-        pub takes : get_or times t 0 ≡ d
+        pub takes : time_to legs t ≡ d
 
-      legged : (c p u t v d : ℕ) → Leg lanes b c p u t v d → Legged c p u t v d
+      legged : (c p u t v d : ℕ) → LegOf lanes b c p u t v d → Legged c p u t v d
       legged c p u t v d leg =
           let here = visited p c u leg.next.here in
           let there = visited t c v leg.next.there in
           let q = previous c p u t v leg.next in
-          let x = legs.timed t p there.0 q in
+          let x = known.timed t p there.0 q in
           let y = leg.lane in
           let f = here.2 in
           let g = there.2 in
-          let same : Some (get_or times t 0) ≡ Some d = (cc) in
+          let same : Some (time_to legs t) ≡ Some d = (cc) in
           record { within = there.0; step = q; from_place = f; to_place = g; takes = (cc) }
 
       -- the next stop
-      next_in : (t p : ℕ) → t < length ss → Previous lanes ss t p → get_or nexts p None ≡ Some t
-      next_in t p h q = go (get_or nexts p None) refl
+      next_in : (t p : ℕ) → t < length ss → Previous lanes ss t p → next_after legs p ≡ Some t
+      next_in t p h q = go (next_after legs p) refl
         where
-          go : (o : Option ℕ) → get_or nexts p None ≡ o → get_or nexts p None ≡ Some t
-          go None e = absurd (legs.some_next t p h q e)
+          go : (o : Option ℕ) → next_after legs p ≡ o → next_after legs p ≡ Some t
+          go None e = absurd (known.some_next t p h q e)
           go (Some r) e =
-              let l = legs.next p r e in
+              let l = known.next p r e in
               let on = next_of t p h q in
               let off = next_of r p l.0 l.1 in
               let c = (facts.one_visit sheet p (carrier_at r) (place_at p) (carrier_at t) (place_at p) off.here on.here).0 in
               e ∙ ap Some (one_after (carrier_at t) p (place_at p) r (place_at r) t (place_at t) (subst (λ n. Next b n p (place_at p) r (place_at r)) c off) on)
 
       -- lags
-      leg_from : (s t : ℕ) → get_or nexts s None ≡ Some t → (c u : ℕ) → Visits b s c u → Leg lanes b c s u t (place_at t) (get_or times t 0)
+      leg_from : (s t : ℕ) → next_after legs s ≡ Some t → (c u : ℕ) → Visits b s c u → LegOf lanes b c s u t (place_at t) (time_to legs t)
       leg_from s t e c u v =
-          let l = legs.next s t e in
+          let l = known.next s t e in
           let leg = leg_of t s l.0 l.1 in
           let o = facts.one_visit sheet s (carrier_at t) (place_at s) c u leg.next.here v in
-          subst (λ w. Leg lanes b c s w t (place_at t) (get_or times t 0)) o.1 (subst (λ n. Leg lanes b n s (place_at s) t (place_at t) (get_or times t 0)) o.0 leg)
+          subst (λ w. LegOf lanes b c s w t (place_at t) (time_to legs t)) o.1 (subst (λ n. LegOf lanes b n s (place_at s) t (place_at t) (time_to legs t)) o.0 leg)
 
       module _ (gap : Gaps) where
-        pub is_lag : (s t : ℕ) (w : ℤ) → Between gap ss times nexts ps s t w → Lag lanes gap b s t w
+        pub is_lag : (s t : ℕ) (w : ℤ) → Between gap ss legs ps s t w → Lag lanes gap b s t w
         is_lag s t w l = ⊎_elim
             (λ v. subst (Lag lanes gap b s t) (sym v.weighs) (travel (leg_of t s v.within v.step)))
             (λ v.
@@ -207,7 +208,7 @@ module _ (sheet : Sheet) where
             subst (Lag lanes gap b s t) (sym wt.weighs) (wait k (stands k v.1) leg second))
             l
 
-        pub lag_is : (s t : ℕ) (w : ℤ) → Lag lanes gap b s t w → Between gap ss times nexts ps s t w
+        pub lag_is : (s t : ℕ) (w : ℤ) → Lag lanes gap b s t w → Between gap ss legs ps s t w
         lag_is s t w (travel {c = c} {u = u} {v = v} {d = d} leg) =
             let l = legged c s u t v d leg in
             inl (record { within = l.within; step = l.step; weighs = ap pos (sym l.takes) })
@@ -220,7 +221,7 @@ module _ (sheet : Sheet) where
               k,
               f.within,
               record {
-                from_next = ap (λ n. get_or nexts n None) i ∙ next_in t s l.within l.step;
+                from_next = ap (λ n. next_after legs n) i ∙ next_in t s l.within l.step;
                 to_second = sym j;
                 weighs = let x = f.its_place in let y = l.to_place in let z = l.takes in (cc);
               },
@@ -319,7 +320,7 @@ module _ (sheet : Sheet) where
                 (cases_order s r)
 
         -- stops that are set head on
-        pub opposed : (s t : ℕ) → OpposedBelow ss nexts leads ps (length ps) s t → Opposed lanes b s t
+        pub opposed : (s t : ℕ) → OpposedBelow ss legs leads ps (length ps) s t → Opposed lanes b s t
         opposed s t (k, h, o) =
             let q = (the k).second_stop in
             let e = (the k).first in
@@ -329,10 +330,10 @@ module _ (sheet : Sheet) where
             let at_q = second_visits k h in
             let q_in = visited q c v at_q in
             let coming = leg_of q s q_in.0 o.from_second in
-            let s_leg : Leg lanes b c s (place_at s) q v (get_or times q 0) =
-            subst (λ x. Leg lanes b c s (place_at s) q x (get_or times q 0)) q_in.2 (subst (λ n. Leg lanes b n s (place_at s) q (place_at q) (get_or times q 0)) q_in.1 coming) in
+            let s_leg : LegOf lanes b c s (place_at s) q v (time_to legs q) =
+            subst (λ x. LegOf lanes b c s (place_at s) q x (time_to legs q)) q_in.2 (subst (λ n. LegOf lanes b n s (place_at s) q (place_at q) (time_to legs q)) q_in.1 coming) in
             let going = leg_from t o.target o.goes e v at_t in
-            let t_leg : Leg lanes b e t v o.target (place_at s) (get_or times o.target 0) = subst (λ x. Leg lanes b e t v o.target x (get_or times o.target 0)) o.arrives going in
+            let t_leg : LegOf lanes b e t v o.target (place_at s) (time_to legs o.target) = subst (λ x. LegOf lanes b e t v o.target x (time_to legs o.target)) o.arrives going in
             let s_in = visited s c (place_at s) s_leg.next.here in
             let e_few : e < 64 = let t_in = visited t e v at_t in subst (λ n. n < 64) t_in.1 (few t t_in.0) in
             let f = first_of s e s_in.0 e_few o.first_there in
@@ -341,13 +342,13 @@ module _ (sheet : Sheet) where
               e = e;
               u = place_at s;
               v = v;
-              s_goes = (q, get_or times q 0, s_leg);
-              t_goes = (o.target, get_or times o.target 0, t_leg);
+              s_goes = (q, time_to legs q, s_leg);
+              t_goes = (o.target, time_to legs o.target, t_leg);
               first_at_u = (f.0, subst (λ n. Stands b f.0 n e (place_at s)) s_in.1 f.1);
               first_at_v = (k, stands k h);
             }
 
-        pub opposed_at : (s t : ℕ) → Opposed lanes b s t → OpposedBelow ss nexts leads ps (length ps) s t
+        pub opposed_at : (s t : ℕ) → Opposed lanes b s t → OpposedBelow ss legs leads ps (length ps) s t
         opposed_at s t o =
             let k = o.first_at_v.0 in
             let at_v = o.first_at_v.1 in

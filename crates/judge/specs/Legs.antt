@@ -1,41 +1,54 @@
 -- The legs between stops, as judging holds them: for each stop the travel time to it from the stop before it, and the next stop.
-use Rattle.std.specs.Prelude.{◌≡◌, ℕ, ◌<◌, ◌≤◌, List, length, get_or, Some, None, Option, ◌≢◌, slice_index, slice_index_or}
+use Rattle.std.specs.Prelude.{◌≡◌, ℕ, ◌<◌, ◌≤◌, List, length, Some, None, Option, ◌≢◌, slice_index_or}
 use Rattle.sheet.specs.declared.records.Stop.{Stop}
 use Rattle.sheet.specs.declared.records.Carrier.{Carrier}
 use Rattle.sheet.specs.Records.{no_carrier, no_stop}
+use Rattle.judge.specs.declared.legs.Leg.{Leg}
 use Rattle.judge.specs.declared.refusal.JudgeRefusal.{JudgeRefusal}
 use Rattle.judge.specs.declared.refusal.JudgeRefusal.TheVariants.{PageTooShort, NotAtGoal, NoLane, Undecided, HeadOn, Ring}
 
 -- carrier c's latest stop is not at its goal
 abbrev pub ShortOfGoal : List Carrier → ℕ → Type 0
-ShortOfGoal carriers c = (c < length carriers) × ((get_or carriers c no_carrier).last_place ≢ (get_or carriers c no_carrier).goal)
+ShortOfGoal carriers c = (c < length carriers) × ((slice_index_or carriers c no_carrier).last_place ≢ (slice_index_or carriers c no_carrier).goal)
+
+-- what is read past the end of a list
+abbrev pub no_leg : Leg
+no_leg = record { time = 0; next = None }
+
+-- the travel time to stop t from the stop before it
+abbrev pub time_to : List Leg → ℕ → ℕ
+time_to legs t = (slice_index_or legs t no_leg).time
+
+-- the stop after stop s on its route
+abbrev pub next_after : List Leg → ℕ → Option ℕ
+next_after legs s = (slice_index_or legs s no_leg).next
 
 -- each next stop is one of the stops
-abbrev pub NextsInside : List (Option ℕ) → Type 0
-NextsInside nexts = (s t : ℕ) → slice_index_or nexts s None ≡ Some t → t < length nexts
+abbrev pub NextsInside : List Leg → Type 0
+NextsInside legs = (s t : ℕ) → next_after legs s ≡ Some t → t < length legs
 
 -- the travel time to each next stop is that of a lane
-abbrev pub Timely : List ℕ → List (Option ℕ) → Type 0
-Timely times nexts = (s t : ℕ) → slice_index_or nexts s None ≡ Some t → (1 ≤ slice_index times t) × (slice_index times t ≤ 36000)
+abbrev pub Timely : List Leg → Type 0
+Timely legs = (s t : ℕ) → next_after legs s ≡ Some t → (1 ≤ time_to legs t) × (time_to legs t ≤ 36000)
 
 -- the travel time of each step is that of a lane
-abbrev pub Stepped : List Stop → List ℕ → Type 0
-Stepped stops times = (t p : ℕ) → t < length stops → (get_or stops t no_stop).previous ≡ Some p → (1 ≤ slice_index times t) × (slice_index times t ≤ 36000)
+abbrev pub Stepped : List Stop → List Leg → Type 0
+Stepped stops legs = (t p : ℕ) → t < length stops → (slice_index_or stops t no_stop).previous ≡ Some p → (1 ≤ time_to legs t) × (time_to legs t ≤ 36000)
 
 module _ (lanes : ℕ → ℕ → Option ℕ) (stops : List Stop) where
   -- the stop before stop t on its route is p
   abbrev pub Previous : ℕ → ℕ → Type 0
-  Previous t p = (get_or stops t no_stop).previous ≡ Some p
+  Previous t p = (slice_index_or stops t no_stop).previous ≡ Some p
 
   -- the lane from stop p's place to stop t's
   abbrev pub lane_between : ℕ → ℕ → Option ℕ
-  lane_between p t = lanes (get_or stops p no_stop).place (get_or stops t no_stop).place
+  lane_between p t = lanes (slice_index_or stops p no_stop).place (slice_index_or stops t no_stop).place
 
   -- the legs to the stops below n
-  pub record Legs (n : ℕ) (times : List ℕ) (nexts : List (Option ℕ)) : Type 0 where
-    pub timed : (t p : ℕ) → t < n → Previous t p → lane_between p t ≡ Some (slice_index times t)
-    pub next : (s t : ℕ) → slice_index_or nexts s None ≡ Some t → (t < n) × Previous t s
-    pub some_next : (t p : ℕ) → t < n → Previous t p → slice_index_or nexts p None ≢ None
+  pub record Legs (n : ℕ) (legs : List Leg) : Type 0 where
+    pub timed : (t p : ℕ) → t < n → Previous t p → lane_between p t ≡ Some (time_to legs t)
+    pub next : (s t : ℕ) → next_after legs s ≡ Some t → (t < n) × Previous t s
+    pub some_next : (t p : ℕ) → t < n → Previous t p → next_after legs p ≢ None
 
   -- no lane leads to stop t from the stop before it, and to each lower stop one does
   pub record NoLaneTo (t : ℕ) : Type 0 where

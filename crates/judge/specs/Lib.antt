@@ -1,5 +1,6 @@
 pub mod Refusals
 pub mod Lowest
+pub mod Routes
 pub mod Legs
 pub mod Chains
 pub mod Meetings

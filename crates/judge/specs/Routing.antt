@@ -4,6 +4,7 @@ use Rattle.sheet.specs.declared.records.Precedence.{Precedence}
 use Rattle.sheet.specs.declared.records.Stop.{Stop}
 use Rattle.judge.specs.declared.refusal.JudgeRefusal.{JudgeRefusal}
 use Rattle.judge.specs.declared.refusal.JudgeRefusal.TheVariants.{PageTooShort, NotAtGoal, NoLane, Undecided, HeadOn, Ring}
+use Rattle.judge.specs.declared.legs.Leg.{Leg}
 use Rattle.judge.specs.Legs.{Legs, NoLaneTo}
 use Rattle.judge.specs.Lowest.{LowestPair}
 use Rattle.judge.specs.Meetings.{Leads, OpenMeeting, LowestOpposed}
@@ -14,14 +15,14 @@ use Rattle.judge.specs.Waits.{Between, Ready}
 abbrev pub Untouched : Pages → Type 0
 Untouched p = (p.timetable_after ≡ p.timetable) × (p.ring_after ≡ p.ring)
 
-module _ (stops : List Stop) (nexts : List (Option ℕ)) (precedences : List Precedence) (leads : List Bool) where
+module _ (stops : List Stop) (legs : List Leg) (precedences : List Precedence) (leads : List Bool) where
   -- every meeting is decided
   abbrev pub AllDecided : Type 0
   AllDecided = (s t : ℕ) → OpenMeeting stops leads s t → ⊥
 
   -- no two stops are set head on
   abbrev pub NoneOpposed : Type 0
-  NoneOpposed = LowestOpposed stops nexts leads precedences (length precedences) None
+  NoneOpposed = LowestOpposed stops legs leads precedences (length precedences) None
 
   -- why precedences are refused: the lowest meeting that is not decided, then the lowest two stops that are set head on
   abbrev pub RefusedBy : JudgeRefusal → Type 0
@@ -29,39 +30,37 @@ module _ (stops : List Stop) (nexts : List (Option ℕ)) (precedences : List Pre
   RefusedBy (NotAtGoal carrier) = ⊥
   RefusedBy (NoLane stop) = ⊥
   RefusedBy (Undecided s t) = LowestPair (OpenMeeting stops leads) s t
-  RefusedBy (HeadOn s t) = AllDecided × LowestOpposed stops nexts leads precedences (length precedences) (Some (s, t))
+  RefusedBy (HeadOn s t) = AllDecided × LowestOpposed stops legs leads precedences (length precedences) (Some (s, t))
   RefusedBy (Ring long) = ⊥
 
 -- the precedences decide every meeting and set no two stops head on
-pub record PrecedencesClear (stops : List Stop) (nexts : List (Option ℕ)) (precedences : List Precedence) : Type 0 where
+pub record PrecedencesClear (stops : List Stop) (legs : List Leg) (precedences : List Precedence) : Type 0 where
   pub leads : List Bool
   pub marks : Leads precedences (length precedences) leads
-  pub decided : AllDecided stops nexts precedences leads
-  pub none_opposed : NoneOpposed stops nexts precedences leads
+  pub decided : AllDecided stops legs precedences leads
+  pub none_opposed : NoneOpposed stops legs precedences leads
 
 -- or they are refused
-pub record PrecedencesRefused (stops : List Stop) (nexts : List (Option ℕ)) (precedences : List Precedence) (e : JudgeRefusal) : Type 0 where
+pub record PrecedencesRefused (stops : List Stop) (legs : List Leg) (precedences : List Precedence) (e : JudgeRefusal) : Type 0 where
   pub leads : List Bool
   pub marks : Leads precedences (length precedences) leads
-  pub refused : RefusedBy stops nexts precedences leads e
+  pub refused : RefusedBy stops legs precedences leads e
 
 module _ (lanes : ℕ → ℕ → Option ℕ) (gap : ℕ → ℕ → ℕ → ℕ) (most : ℕ) (stops : List Stop) (precedences : List Precedence) (p : Pages) where
   -- all legs are found, the precedences are clear, and the lags are worked out
   pub record WorkedOut (r : Result ℕ JudgeRefusal) : Type 0 where
-    pub times : List ℕ
-    pub nexts : List (Option ℕ)
-    pub legs : Legs lanes stops (length stops) times nexts
-    pub ready : Ready stops precedences times nexts
-    pub clear : PrecedencesClear stops nexts precedences
-    pub settles : Settles (Between gap stops times nexts precedences) (length stops) most p r
+    pub legs : List Leg
+    pub known : Legs lanes stops (length stops) legs
+    pub ready : Ready stops precedences legs
+    pub clear : PrecedencesClear stops legs precedences
+    pub settles : Settles (Between gap stops legs precedences) (length stops) most p r
 
   -- all legs are found, and the precedences are refused
   pub record TurnedDown (e : JudgeRefusal) : Type 0 where
-    pub times : List ℕ
-    pub nexts : List (Option ℕ)
-    pub legs : Legs lanes stops (length stops) times nexts
-    pub ready : Ready stops precedences times nexts
-    pub refused : PrecedencesRefused stops nexts precedences e
+    pub legs : List Leg
+    pub known : Legs lanes stops (length stops) legs
+    pub ready : Ready stops precedences legs
+    pub refused : PrecedencesRefused stops legs precedences e
     pub untouched : Untouched p
 
   abbrev pub Routed : Result ℕ JudgeRefusal → Type 0

@@ -1,6 +1,5 @@
 // The judging of a sheet.
 ghost use Rattle.std.specs.Prelude.{◌≡◌, ℕ, ◌^◌, ◌<◌, ◌≤◌, max, ◌++◌, length, drop, MatchResult, slice_index};
-ghost use Rattle.judge.specs.Legs.{NextsInside};
 ghost use Rattle.judge.specs.Routing.{PrecedencesClear, PrecedencesRefused, Routed};
 ghost use Rattle.judge.specs.FindingHistories.{GoesOn};
 ghost use Rattle.judge.specs.Histories.{Event, Lawful};
@@ -11,20 +10,23 @@ ghost use Rattle.sheet.specs.Histories.{History};
 ghost use Rattle.sheet.specs.Histories.History.{◌▹◌};
 ghost use Rattle.sheet.specs.Sheets.{sheet_book};
 ghost use Rattle.judge.specs.Settling.{Settles, Within};
-ghost use Rattle.judge.specs.Waits.{Between, Consistent, Ready};
+ghost use Rattle.judge.specs.Waits.{Between};
 
-use crate::legs::{check_goals, find_legs};
-use crate::meetings::{check_head_on, check_meetings, mark_leads};
+use crate::legs::{Leg, NO_LEG, check_goals, find_legs};
+use crate::marks::Marks;
 use crate::refusal::JudgeRefusal;
-use crate::waits::{gather_steps, gather_waits};
-use lags::{Lag, Outcome, solve};
-use sheet::records::{Precedence, Stop};
+use crate::routes::Routes;
+use crate::tables::Tables;
+use arrayvec::ArrayVec;
+use lags::{Unsolved, solve};
 use sheet::sheets::Sheet;
 use yard::{FollowingRule, Yard};
 
-// Writes the arrivals to the front of the timetable.
+// Writes the arrivals to the front of the timetable; by index, since the library does not say what
+// the page holds after a `zip` over its items.
 fn write_timetable(arrivals: &[u64], timetable: &mut [u32])
-    requires { (length arrivals.now ≤ length timetable.old) × (((i : ℕ) → slice_index arrivals.now i < 2 ^ 32)) }
+    requires room { length arrivals.now ≤ length timetable.old }
+    requires small { (i : ℕ) → slice_index arrivals.now i < 2 ^ 32 }
     ensures { timetable.new ≡ arrivals.now ++ drop (length arrivals.now) timetable.old }
 {
     for (i, arrival) in arrivals.iter().enumerate() {
@@ -36,72 +38,57 @@ fn write_timetable(arrivals: &[u64], timetable: &mut [u32])
 // ring page.
 fn settle<R: FollowingRule>(
     rule: &R,
-    precedences: &[Precedence],
-    stops: &[Stop],
-    times: &[u16],
-    nexts: &[Option<u16>],
+    tables: Tables,
     timetable: &mut [u32],
     ring: &mut [u16],
 ) -> Result<u16, JudgeRefusal>
-    requires ready { Ready stops.now precedences.now times.now nexts.now }
-    requires pages { (length stops.now ≤ length timetable.old) × (length stops.now ≤ length ring.old) }
-    ensures { Settles (Between (R.FollowingRule.gaps rule.now) stops.now times.now nexts.now precedences.now) (length stops.now) (max 36000 R.FollowingRule.largest) (record { timetable = timetable.old; ring = ring.old; timetable_after = timetable.new; ring_after = ring.new }) result }
+    requires timetable { length tables.routes.stops.now ≤ length timetable.old }
+    requires ring { length tables.routes.stops.now ≤ length ring.old }
+    ensures { Settles (Between (R.FollowingRule.gaps rule.now) tables.entry.routes.stops.now tables.entry.legs.now tables.entry.routes.precedences.now) (length tables.entry.routes.stops.now) (max 36000 R.FollowingRule.LARGEST_GAP) (record { timetable = timetable.old; ring = ring.old; timetable_after = timetable.new; ring_after = ring.new }) result }
 {
-    let mut lags = [Lag {
-        from: 0,
-        to: 0,
-        weight: 0,
-    }; 3072];
-    let steps = gather_steps(stops, times, &mut lags);
-    let count = gather_waits(rule, precedences, stops, times, nexts, &mut lags, steps);
+    let mut lags = ArrayVec::new();
+    tables.gather_lags(rule, &mut lags);
     let mut arrivals = [0; 1024];
-    let arrivals = &mut arrivals[0..stops.len()];
-    match solve(&lags[0..count], arrivals, ring) {
-        Outcome::Settled => {
+    let arrivals = &mut arrivals[0..tables.legs.len()];
+    match solve(&lags, arrivals, ring) {
+        Ok(()) => {
             write_timetable(arrivals, timetable);
-            Ok(stops.len() as u16)
+            Ok(arrivals.len() as u16)
         }
-        Outcome::Ring { length } => Err(JudgeRefusal::Ring { length }),
-        Outcome::Unfit => unreachable(),
+        Err(Unsolved::Ring { length }) => Err(JudgeRefusal::Ring { length }),
+        Err(Unsolved::Unfit) => unreachable!(),
     }
 }
 
 // Refuses the lowest meeting without a precedence, then the lowest two stops that are set head on.
-fn check_precedences(
-    precedences: &[Precedence],
-    stops: &[Stop],
-    nexts: &[Option<u16>],
-) -> Result<(), JudgeRefusal>
-    requires { (Consistent stops.now precedences.now) × ((length nexts.now ≡ length stops.now) × (NextsInside nexts.now)) }
-    ensures { MatchResult result (λ _. PrecedencesClear stops.now nexts.now precedences.now) (λ e. PrecedencesRefused stops.now nexts.now precedences.now e) }
+fn check_precedences(tables: Tables) -> Result<(), JudgeRefusal>
+    ensures { MatchResult result (λ _. PrecedencesClear tables.entry.routes.stops.now tables.entry.legs.now tables.entry.routes.precedences.now) (λ e. PrecedencesRefused tables.entry.routes.stops.now tables.entry.legs.now tables.entry.routes.precedences.now e) }
 {
-    let mut leads = [false; 65536];
-    mark_leads(precedences, &mut leads);
-    check_meetings(stops, &leads)?;
-    check_head_on(precedences, stops, nexts, &leads)
+    let mut marks = Marks::none();
+    marks.mark(tables.routes);
+    tables.routes.check_meetings(&marks)?;
+    tables.check_head_on(&marks)
 }
 
-// Judges routes that have all reached their goals, with tables to work in.
+// Judges routes that have all reached their goals, with a table to work in. The two pages stay two parameters: each is
+// the caller's own, and the contract names both before and after.
 fn judge_routes<Y: Yard, R: FollowingRule>(
     yard: &Y,
     rule: &R,
-    precedences: &[Precedence],
-    stops: &[Stop],
-    times: &mut [u16],
-    nexts: &mut [Option<u16>],
+    routes: Routes,
+    legs: &mut [Leg],
     timetable: &mut [u32],
     ring: &mut [u16],
 ) -> Result<u16, JudgeRefusal>
-    requires sheet { Consistent stops.now precedences.now }
-    requires room { (1024 ≤ length times.old) × (1024 ≤ length nexts.old) }
-    requires pages { (length stops.now ≤ length timetable.old) × (length stops.now ≤ length ring.old) }
-    ensures { Routed (Y.Yard.lanes yard.now) (R.FollowingRule.gaps rule.now) (max 36000 R.FollowingRule.largest) stops.now precedences.now (record { timetable = timetable.old; ring = ring.old; timetable_after = timetable.new; ring_after = ring.new }) result }
+    requires legs { length legs.old ≡ length routes.stops.now }
+    requires timetable { length routes.stops.now ≤ length timetable.old }
+    requires ring { length routes.stops.now ≤ length ring.old }
+    ensures { Routed (Y.Yard.lanes yard.now) (R.FollowingRule.gaps rule.now) (max 36000 R.FollowingRule.LARGEST_GAP) routes.entry.stops.now routes.entry.precedences.now (record { timetable = timetable.old; ring = ring.old; timetable_after = timetable.new; ring_after = ring.new }) result }
 {
-    let times = &mut times[0..stops.len()];
-    let nexts = &mut nexts[0..stops.len()];
-    find_legs(yard, stops, times, nexts)?;
-    check_precedences(precedences, stops, nexts)?;
-    settle(rule, precedences, stops, times, nexts, timetable, ring)
+    find_legs(yard, routes, legs)?;
+    let tables = Tables { routes, legs };
+    check_precedences(tables)?;
+    settle(rule, tables, timetable, ring)
 }
 
 // Judges the sheet in the yard under the rule. A pass answers the number of stops, and the first so many numbers of the
@@ -114,11 +101,11 @@ pub fn judge<Y: Yard, R: FollowingRule>(
     timetable: &mut [u32],
     ring: &mut [u16],
 ) -> Result<u16, JudgeRefusal>
-    ensures judges { Judged (judging_of (Y.Yard.lanes yard.now) (R.FollowingRule.gaps rule.now) R.FollowingRule.largest timetable.old ring.old timetable.new ring.new result) (sheet_book sheet.now) }
-    ensures exactly { PassesExactly (judging_of (Y.Yard.lanes yard.now) (R.FollowingRule.gaps rule.now) R.FollowingRule.largest timetable.old ring.old timetable.new ring.new result) (sheet_book sheet.now) }
-    ensures goes_on { (h : History Event) → Lawful h (sheet_book sheet.now) → Lawful (h ▹ judged (judging_of (Y.Yard.lanes yard.now) (R.FollowingRule.gaps rule.now) R.FollowingRule.largest timetable.old ring.old timetable.new ring.new result)) (sheet_book sheet.now) }
-    ensures concludes { Concluded (judging_of (Y.Yard.lanes yard.now) (R.FollowingRule.gaps rule.now) R.FollowingRule.largest timetable.old ring.old timetable.new ring.new result) (sheet_book sheet.now) }
-    ensures continues { GoesOn (judging_of (Y.Yard.lanes yard.now) (R.FollowingRule.gaps rule.now) R.FollowingRule.largest timetable.old ring.old timetable.new ring.new result) (sheet_book sheet.now) }
+    ensures judges { Judged (judging_of (Y.Yard.lanes yard.now) (R.FollowingRule.gaps rule.now) R.FollowingRule.LARGEST_GAP timetable.old ring.old timetable.new ring.new result) (sheet_book sheet.now) }
+    ensures exactly { PassesExactly (judging_of (Y.Yard.lanes yard.now) (R.FollowingRule.gaps rule.now) R.FollowingRule.LARGEST_GAP timetable.old ring.old timetable.new ring.new result) (sheet_book sheet.now) }
+    ensures goes_on { (h : History Event) → Lawful h (sheet_book sheet.now) → Lawful (h ▹ judged (judging_of (Y.Yard.lanes yard.now) (R.FollowingRule.gaps rule.now) R.FollowingRule.LARGEST_GAP timetable.old ring.old timetable.new ring.new result)) (sheet_book sheet.now) }
+    ensures concludes { Concluded (judging_of (Y.Yard.lanes yard.now) (R.FollowingRule.gaps rule.now) R.FollowingRule.LARGEST_GAP timetable.old ring.old timetable.new ring.new result) (sheet_book sheet.now) }
+    ensures continues { GoesOn (judging_of (Y.Yard.lanes yard.now) (R.FollowingRule.gaps rule.now) R.FollowingRule.LARGEST_GAP timetable.old ring.old timetable.new ring.new result) (sheet_book sheet.now) }
     ensures within { Within (length timetable.old) (length ring.old) result }
 {
     let stops = sheet.stops();
@@ -126,15 +113,16 @@ pub fn judge<Y: Yard, R: FollowingRule>(
         return Err(JudgeRefusal::PageTooShort);
     }
     check_goals(sheet.carriers())?;
-    let mut times = [0; 1024];
-    let mut nexts = [None; 1024];
+    let routes = Routes {
+        stops,
+        precedences: sheet.precedences(),
+    };
+    let mut legs = [NO_LEG; 1024];
     judge_routes(
         yard,
         rule,
-        sheet.precedences(),
-        stops,
-        &mut times,
-        &mut nexts,
+        routes,
+        &mut legs[0..stops.len()],
         timetable,
         ring,
     )

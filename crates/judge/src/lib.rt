@@ -3,6 +3,9 @@
 
 pub mod judging;
 mod legs;
+mod marks;
 mod meetings;
 pub mod refusal;
+mod routes;
+mod tables;
 mod waits;

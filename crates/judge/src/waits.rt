@@ -1,34 +1,14 @@
 // The lags of a sheet: how long each step takes, and how long who goes second waits.
-ghost use Rattle.std.specs.Prelude.{◌≡◌, ℕ, ◌+◌, ◌<◌, ◌≤◌, length, pos, ◌-ℤ◌, Some, None, MatchOption, slice_index_or};
-ghost use Rattle.sheet.specs.Records.{no_stop};
-ghost use Rattle.sheet.specs.Tables.{Linked, PrecedencesInside};
-ghost use Rattle.judge.specs.Legs.{NextsInside, Timely};
+ghost use Rattle.std.specs.Prelude.{◌≡◌, ◌+◌, ◌<◌, ◌≤◌, length, pos, ◌-ℤ◌, None, MatchOption};
+ghost use Rattle.arrayvec.specs.ArrayVec.{array_vec_len};
+ghost use Rattle.judge.specs.Legs.{next_after};
 ghost use Rattle.judge.specs.Waits.{LagOf, Lists, Travel, Waiting};
 
-use crate::legs::{next_of, previous_of};
+use crate::tables::Tables;
+use arrayvec::ArrayVec;
 use lags::Lag;
-use sheet::records::{Precedence, Stop};
+use sheet::records::Precedence;
 use yard::FollowingRule;
-
-// Writes the lag of the step to each stop that has one before it to the front of `lags`, and answers how many.
-pub(crate) fn gather_steps(stops: &[Stop], times: &[u16], lags: &mut [Lag]) -> usize
-    requires { ((length stops.now ≤ 1024) × (length times.now ≡ length stops.now) × (3072 ≤ length lags.old)) × (Linked stops.now) }
-    ensures few { result ≤ length stops.now }
-    ensures gathered { Lists (Travel stops.now times.now (length stops.now)) result lags.new }
-{
-    let mut count = 0;
-    for t in 0..stops.len() {
-        if let Some(previous) = previous_of(stops, t) {
-            lags[count] = Lag {
-                from: previous as u16,
-                to: t as u16,
-                weight: i32::from(times[t]),
-            };
-            count += 1;
-        }
-    }
-    count
-}
 
 // The gap less the travel time, plus the tick after.
 fn waiting_time(gap: u32, time: u16) -> i32
@@ -38,51 +18,63 @@ fn waiting_time(gap: u32, time: u16) -> i32
     gap as i32 + 1 - i32::from(time)
 }
 
-// The lag of a precedence: the second carrier reaches the place later than the gap after the first one's departure,
-// which is its arrival at its next stop less the travel time to there.
-fn waiting_lag<R: FollowingRule>(
-    rule: &R,
-    precedence: &Precedence,
-    stops: &[Stop],
-    times: &[u16],
-    nexts: &[Option<u16>],
-) -> Option<Lag>
-    requires sizes { (length stops.now ≤ 1024) × (length times.now ≡ length stops.now) × (length nexts.now ≡ length stops.now) × (precedence.now.first_stop < length stops.now) }
-    requires timely { (NextsInside nexts.now) × (Timely times.now nexts.now) }
-    ensures { MatchOption result (slice_index_or nexts.now precedence.now.first_stop None ≡ None) (λ g. Waiting (R.FollowingRule.gaps rule.now) stops.now times.now nexts.now precedence.now g) }
-{
-    let next = next_of(nexts, precedence.first_stop as usize)?;
-    let time = times[next];
-    let gap = rule.gap(precedence.place, stops[next].place, time);
-    Some(Lag {
-        from: next as u16,
-        to: precedence.second_stop,
-        weight: waiting_time(gap, time),
-    })
-}
-
-// Adds the lag of each precedence to the first `steps` of `lags`, and answers how many there are then.
-pub(crate) fn gather_waits<R: FollowingRule>(
-    rule: &R,
-    precedences: &[Precedence],
-    stops: &[Stop],
-    times: &[u16],
-    nexts: &[Option<u16>],
-    lags: &mut [Lag],
-    steps: usize,
-) -> usize
-    requires sizes { (length stops.now ≤ 1024) × (length times.now ≡ length stops.now) × (length nexts.now ≡ length stops.now) × (length precedences.now ≤ 2048) × (3072 ≤ length lags.old) × (steps ≤ 1024) }
-    requires inside { (NextsInside nexts.now) × ((Timely times.now nexts.now) × (PrecedencesInside 64 (length stops.now) precedences.now)) }
-    requires travels { Lists (Travel stops.now times.now (length stops.now)) steps lags.old }
-    ensures few { result ≤ 3072 }
-    ensures gathered { Lists (LagOf (R.FollowingRule.gaps rule.now) stops.now times.now nexts.now precedences.now (length stops.now) (length precedences.now)) result lags.new }
-{
-    let mut count = steps;
-    for precedence in precedences {
-        if let Some(lag) = waiting_lag(rule, precedence, stops, times, nexts) {
-            lags[count] = lag;
-            count += 1;
+impl Tables<'_> {
+    // Adds the lag of the step to each stop that has one before it to the empty list.
+    fn gather_steps(self, lags: &mut ArrayVec<Lag, 3072>)
+        requires { array_vec_len lags.old ≡ 0 }
+        ensures few { array_vec_len lags.new ≤ length self.entry.routes.stops.now }
+        ensures gathered { Lists (Travel self.entry.routes.stops.now self.entry.legs.now (length self.entry.routes.stops.now)) lags.new.items }
+    {
+        let stops = self.routes.stops;
+        let legs = self.legs;
+        for (t, stop) in stops.iter().enumerate() {
+            if let Some(previous) = stop.previous {
+                lags.push(Lag {
+                    from: previous,
+                    to: t as u16,
+                    weight: i32::from(legs[t].time),
+                });
+            }
         }
     }
-    count
+
+    // The lag of a precedence: the second carrier reaches the place later than the gap after the first one's
+    // departure, which is its arrival at its next stop less the travel time to there.
+    fn waiting_lag<R: FollowingRule>(self, rule: &R, precedence: &Precedence) -> Option<Lag>
+        requires { precedence.now.first_stop < length self.legs.now }
+        ensures { MatchOption result (next_after self.entry.legs.now precedence.now.first_stop ≡ None) (λ g. Waiting (R.FollowingRule.gaps rule.now) self.entry.routes.stops.now self.entry.legs.now precedence.now g) }
+    {
+        let stops = self.routes.stops;
+        let legs = self.legs;
+        let next = legs[usize::from(precedence.first_stop)].next?;
+        let time = legs[usize::from(next)].time;
+        let gap = rule.gap(precedence.place, stops[usize::from(next)].place, time);
+        Some(Lag {
+            from: next,
+            to: precedence.second_stop,
+            weight: waiting_time(gap, time),
+        })
+    }
+
+    // Adds the lag of each precedence to those of the steps.
+    fn gather_waits<R: FollowingRule>(self, rule: &R, lags: &mut ArrayVec<Lag, 3072>)
+        requires few { array_vec_len lags.old ≤ length self.routes.stops.now }
+        requires travels { Lists (Travel self.routes.stops.now self.legs.now (length self.routes.stops.now)) lags.old.items }
+        ensures { Lists (LagOf (R.FollowingRule.gaps rule.now) self.entry.routes.stops.now self.entry.legs.now self.entry.routes.precedences.now (length self.entry.routes.stops.now) (length self.entry.routes.precedences.now)) lags.new.items }
+    {
+        for precedence in self.routes.precedences {
+            if let Some(lag) = self.waiting_lag(rule, precedence) {
+                lags.push(lag);
+            }
+        }
+    }
+
+    // Adds the lags of the steps and of the precedences to the empty list.
+    pub(crate) fn gather_lags<R: FollowingRule>(self, rule: &R, lags: &mut ArrayVec<Lag, 3072>)
+        requires { array_vec_len lags.old ≡ 0 }
+        ensures { Lists (LagOf (R.FollowingRule.gaps rule.now) self.entry.routes.stops.now self.entry.legs.now self.entry.routes.precedences.now (length self.entry.routes.stops.now) (length self.entry.routes.precedences.now)) lags.new.items }
+    {
+        self.gather_steps(lags);
+        self.gather_waits(rule, lags);
+    }
 }

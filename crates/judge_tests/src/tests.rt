@@ -25,7 +25,7 @@ fn yard_of(rt: &impl Abort, heap: Global, lanes: &[(u16, u16, u16)]) -> Result<L
     Ok(yard)
 }
 
-// The worked yard: lanes both ways, 0-1 of 3 ticks, 1-2 of 2, 1-4 of 5, 2-3 of 4.
+// The worked yard, as a lane yard: lanes both ways, 0-1 of 3 ticks, 1-2 of 2, 1-4 of 5, 2-3 of 4.
 fn worked_yard(rt: &impl Abort, heap: Global) -> Result<LaneYard, Fail> {
     yard_of(
         rt,
@@ -48,13 +48,21 @@ fn worked_sheet(rt: &impl Abort, heap: Global) -> Result<Sheet, Fail> {
     let mut sheet = Sheet::open(heap)?;
     assert_eq!(rt; sheet.enter_carrier(0, 3), Ok(0));
     assert_eq!(rt; sheet.enter_carrier(2, 4), Ok(1));
-    for (i, stop) in [(0, 1), (0, 2), (0, 3), (1, 1), (1, 4)].iter().enumerate() {
-        let (carrier, place) = *stop;
-        assert_eq!(rt; sheet.enter_stop(carrier, place), Ok(i as u16 + 2));
+    let stops = [(0, 1), (0, 2), (0, 3), (1, 1), (1, 4)];
+    for ((carrier, place), number) in stops.into_iter().zip(2..) {
+        assert_eq!(rt; sheet.enter_stop(carrier, place), Ok(number));
     }
     assert_eq!(rt; sheet.enter_precedence(1, 0, 2), Ok(1));
     assert_eq!(rt; sheet.enter_precedence(1, 0, 1), Ok(2));
     Ok(sheet)
+}
+
+// That the page begins with these numbers, and every other number on it is the mark.
+fn check_page<T: PartialEq>(rt: &impl Abort, page: &[T], front: &[T], mark: &T) {
+    assert!(rt; front.len() <= page.len());
+    let (written, rest) = page.split_at(front.len());
+    assert!(rt; written == front);
+    assert!(rt; rest.iter().all(|number| number == mark));
 }
 
 // That the sheet passes with these arrivals, on pages with so many numbers more than stops, whose rest keeps its marks.
@@ -74,12 +82,8 @@ fn check_pass<Y: Yard, R: FollowingRule>(
         judge(sheet, yard, rule, &mut timetable, &mut ring),
         Ok(arrivals.len() as u16)
     );
-    for (i, number) in timetable.iter().enumerate() {
-        assert_eq!(rt; *number, arrivals.get(i).copied().unwrap_or(77));
-    }
-    for stop in ring.iter() {
-        assert_eq!(rt; *stop, 99);
-    }
+    check_page(rt, &timetable, arrivals, &77);
+    check_page(rt, &ring, &[], &99);
     Ok(())
 }
 
@@ -97,12 +101,8 @@ fn check_refused<Y: Yard, R: FollowingRule>(
         judge(sheet, yard, rule, &mut timetable, &mut ring),
         Err(refusal)
     );
-    for number in &timetable {
-        assert_eq!(rt; *number, 77);
-    }
-    for stop in &ring {
-        assert_eq!(rt; *stop, 99);
-    }
+    check_page(rt, &timetable, &[], &77);
+    check_page(rt, &ring, &[], &99);
 }
 
 // That the sheet has this ring, on pages whose rest keeps its marks.
@@ -122,12 +122,8 @@ fn check_ring<Y: Yard, R: FollowingRule>(
             length: stops.len() as u16,
         })
     );
-    for (i, stop) in ring.iter().enumerate() {
-        assert_eq!(rt; *stop, stops.get(i).copied().unwrap_or(99));
-    }
-    for number in &timetable {
-        assert_eq!(rt; *number, 77);
-    }
+    check_page(rt, &timetable, &[], &77);
+    check_page(rt, &ring, stops, &99);
 }
 
 #[test]
@@ -248,24 +244,21 @@ fn ring_of_sixty_four(rt: HostRuntime) -> Result<(), Fail> {
             Ok(u16::from(i) + 1)
         );
     }
-    let mut ring = [0; 64];
-    for (i, stop) in ring.iter_mut().enumerate() {
-        *stop = if i == 0 { 64 } else { 128 - i as u16 };
+    let mut ring = Vec::new(heap);
+    ring.push(64)?;
+    for stop in (65..128).rev() {
+        ring.push(stop)?;
     }
     check_ring(&rt, &sheet, &yard, &FullLane, &ring);
     let mut arrivals = [0; 128];
-    for (i, arrival) in arrivals.iter_mut().enumerate() {
-        *arrival = if i < 64 { 0 } else { 1 };
-    }
+    arrivals[64..].fill(1);
     let mut timetable = [77; 130];
     let mut page = [99; 130];
     assert_eq!(rt;
         judge(&sheet, &yard, &LaneLessOne, &mut timetable, &mut page),
         Ok(128)
     );
-    for (i, number) in timetable.iter().enumerate() {
-        assert_eq!(rt; *number, arrivals.get(i).copied().unwrap_or(77));
-    }
+    check_page(&rt, &timetable, &arrivals, &77);
     Ok(())
 }
 

@@ -1,1 +1,1 @@
-pub mod Heart
+pub mod Decided

@@ -5,8 +5,7 @@ ghost use Rattle.plan.specs.Theorems.{LagsDecide};
 
 // A timed plan keeps the precedences and is free of conflict exactly when it keeps every lag, unless two stops are set
 // head on, when there is none; and a ring excludes every plan.
-pub fn lags_decide() -> u8
+// The function does nothing: it is there since a theorem is named in a function's contract, and no other names this one.
+pub fn lags_decide()
     ensures { LagsDecide }
-{
-    0
-}
+{}

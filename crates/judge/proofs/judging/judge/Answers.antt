@@ -1,7 +1,8 @@
-use Rattle.std.proofs.Common.{ℕ, max, length, Err, vec_items, refl, ap, subst, ⊎_elim, arith}
+use Rattle.std.proofs.Common.{ℕ, max, length, Err, refl, ap, subst, ⊎_elim, arith}
 use Rattle.std.proofs.lemmas.Result.{err_from_is_err_and}
 use Rattle.judge.specs.Lowest.{Lowest}
-use Rattle.sheet.specs.Sheets.{sheet_book}
+use Rattle.sheet.specs.Sheets.{carriers_of, stops_of, precedences_of, sheet_book}
+use Rattle.sheet.proofs.Facts as facts
 use Rattle.judge.specs.declared.refusal.JudgeRefusal.TheVariants.{PageTooShort, NotAtGoal}
 use Rattle.judge.specs.Judged.{judging_of}
 use Rattle.judge.specs.Legs.{ShortOfGoal}
@@ -13,16 +14,10 @@ use Rattle.judge.proofs.Routings.{routed_same, routed_within}
 use Rattle.judge.proofs.Tabled.{consistent}
 use Rattle.judge.proofs.judging.judge.Goals as goal
 
-pub judge_routes-requires : goal.judge_routes-requires
-judge_routes-requires g c =
+pub invariant_of-routes : goal.invariant_of-routes
+invariant_of-routes g c =
     let own = c.args.sheet.now in
-    let long = own.tables.stops.ok.0 in
-    let many = own.tables.precedences.ok.0 in
-    record {
-      sheet = consistent _ _ _ _ _ _ c.stops-stops.ensures c.precedences.ensures own.limits.0 long (omega arith) (omega arith) own.linked own.carried own.lawful;
-      room = (omega arith, omega arith);
-      pages = (omega arith, omega arith);
-    }
+    record { consistent = consistent _ _ _ _ _ _ c.stops-stops.ensures c.precedences.ensures (facts.few_carriers own) refl (facts.few_stops own) (facts.few_precedences own) own.linked own.carried own.lawful }
 
 pub returns-then-timetable-stops : goal.returns-then-timetable-stops
 returns-then-timetable-stops g c =
@@ -31,9 +26,9 @@ returns-then-timetable-stops g c =
     let gaps = g.R.FollowingRule.gaps c.args.rule.now in
     let pages : Pages = record { timetable = c.args.timetable.now; ring = c.args.ring.now; timetable_after = c.args.timetable.now; ring_after = c.args.ring.now } in
     let long = ap length c.stops-stops.ensures in
-    let J = judged_short own lanes gaps g.R.FollowingRule.largest (g.met.Y.Yard.limited _) pages
+    let J = judged_short own lanes gaps g.R.FollowingRule.LARGEST_GAP (g.met.Y.Yard.limited _) pages
     (λ f. ⊎_elim (λ a. omega (arith, f.0)) (λ a. omega (arith, f.1, a.1)) c.then-timetable-stops.either) (refl, refl) in
-    let j = judging_of lanes gaps g.R.FollowingRule.largest c.args.timetable.now c.args.ring.now c.args.timetable.now c.args.ring.now (Err PageTooShort) in
+    let j = judging_of lanes gaps g.R.FollowingRule.LARGEST_GAP c.args.timetable.now c.args.ring.now c.args.timetable.now c.args.ring.now (Err PageTooShort) in
     record {
       judges = judged_in_full j (sheet_book own) J;
       exactly = exactly j (sheet_book own) J;
@@ -52,9 +47,9 @@ returns-in_err-check_goals g c =
     let long = ap length c.stops-stops.ensures in
     let away = c.in_err-check_goals.ensures in
     let low = subst (λ xs. Lowest (ShortOfGoal xs) away.0) c.carriers.ensures away.2 in
-    let J = judged_away own lanes gaps g.R.FollowingRule.largest (g.met.Y.Yard.limited _) pages (omega arith, omega arith) away.0 low (refl, refl) in
+    let J = judged_away own lanes gaps g.R.FollowingRule.LARGEST_GAP (g.met.Y.Yard.limited _) pages (omega arith, omega arith) away.0 low (refl, refl) in
     let p = err_from_is_err_and c.from_residual.result c.from_residual.ensures.1 in
-    let j = judging_of lanes gaps g.R.FollowingRule.largest c.args.timetable.now c.args.ring.now c.args.timetable.now c.args.ring.now (Err (NotAtGoal away.0)) in
+    let j = judging_of lanes gaps g.R.FollowingRule.LARGEST_GAP c.args.timetable.now c.args.ring.now c.args.timetable.now c.args.ring.now (Err (NotAtGoal away.0)) in
     rw (p.1, p.2, away.1) (record {
       judges = judged_in_full j (sheet_book own) J;
       exactly = exactly j (sheet_book own) J;
@@ -72,11 +67,11 @@ returns g c =
     let carriers = c.carriers.ensures in
     let lanes = g.Y.Yard.lanes c.args.yard.now in
     let gaps = g.R.FollowingRule.gaps c.args.rule.now in
-    let largest = g.R.FollowingRule.largest in
+    let largest = g.R.FollowingRule.LARGEST_GAP in
     let pages : Pages = record { timetable = c.args.timetable.now; ring = c.args.ring.now; timetable_after = c.judge_routes.new.timetable; ring_after = c.judge_routes.new.ring } in
-    let routed : Routed lanes gaps (max 36000 largest) (vec_items own.tables.stops) (vec_items own.tables.precedences) pages c.judge_routes.result =
+    let routed : Routed lanes gaps (max 36000 largest) (stops_of own) (precedences_of own) pages c.judge_routes.result =
     routed_same lanes gaps (max 36000 largest) pages c.judge_routes.result _ _ _ _ stops precedences c.judge_routes.ensures in
-    let home : (k : ℕ) → ShortOfGoal (vec_items own.tables.carriers) k → ⊥ = subst (λ xs. (k : ℕ) → ShortOfGoal xs k → ⊥) carriers c.in_ok-check_goals.ensures in
+    let home : (k : ℕ) → ShortOfGoal (carriers_of own) k → ⊥ = subst (λ xs. (k : ℕ) → ShortOfGoal xs k → ⊥) carriers c.in_ok-check_goals.ensures in
     let long = ap length stops in
     let j = judging_of lanes gaps largest c.args.timetable.now c.args.ring.now c.judge_routes.new.timetable c.judge_routes.new.ring c.judge_routes.result in
     let J = judged_routed own lanes gaps largest (g.met.Y.Yard.limited _) pages (omega arith, omega arith) home c.judge_routes.result routed in

@@ -5,7 +5,7 @@ use Rattle.judge.proofs.judging.write_timetable.Goals as goal
 pub loop-i-preserved : goal.loop-i-preserved
 loop-i-preserved c =
     ap (λ page. set page c.loop-i.i (get_or c.args.arrivals.now c.loop-i.i 0)) c.loop-i.invariant
-    ∙ front_more c.args.arrivals.now c.args.timetable.now c.loop-i.i (omega arith) c.requires.0
+    ∙ front_more c.args.arrivals.now c.args.timetable.now c.loop-i.i (omega arith) c.requires.room
 
 pub returns : goal.returns
 returns c = c.loop-i.invariant ∙ front_all c.args.arrivals.now c.args.timetable.now c.loop-i.i (omega arith)

@@ -1,5 +1,5 @@
 -- A good plan keeps every lag, and a plan that keeps every lag is good unless two stops are set head on.
-use Rattle.std.proofs.Common.{ℕ, ◌+◌, ◌-◌, ◌<◌, ◌≤◌, ◌≢◌, pos, ◌+ℤ◌, ◌-ℤ◌, ◌≤ℤ◌, ⊎_elim, arith}
+use Rattle.std.proofs.Common.{ℕ, ◌+◌, ◌-◌, ◌<◌, ◌≤◌, ◌≢◌, pos, ⊎_elim, arith}
 use native.Mathlib.Decide.{dec_lt}
 use Rattle.std.proofs.lemmas.Int.{ints}
 use Rattle.lags.specs.Ways.{Solution}
@@ -7,30 +7,17 @@ use Rattle.lags.proofs.Ways.{ring_excludes}
 use Rattle.sheet.specs.Book.{Book, Visits, Stands}
 use Rattle.plan.specs.Plans.{Lanes, Gaps, Leg, Timed, Keeps, Conflict, at_one_place, following, head_on, Good, Complete, Opposed}
 use Rattle.plan.specs.Lags.{Lag, travel, wait}
-use Rattle.plan.specs.Theorems.{Orderly, Positive, FromZero, LagsDecideIn, LagsDecide}
-
--- one lag, as natural numbers
-wait_up : (a b d g : ℕ) → a + (g + 1) ≤ b + d → (pos a +ℤ (pos (g + 1) -ℤ pos d)) ≤ℤ pos b
-wait_up a b d g h = omega (arith, ints)
-
-wait_down : (a b d g : ℕ) → (pos a +ℤ (pos (g + 1) -ℤ pos d)) ≤ℤ pos b → a + (g + 1) ≤ b + d
-wait_down a b d g h = omega (arith, ints)
-
-travel_up : (a b d : ℕ) → a + d ≤ b → (pos a +ℤ pos d) ≤ℤ pos b
-travel_up a b d h = omega (arith, ints)
-
-travel_down : (a b d : ℕ) → (pos a +ℤ pos d) ≤ℤ pos b → a + d ≤ b
-travel_down a b d h = omega (arith, ints)
+use Rattle.plan.specs.Theorems.{Orderly, Positive, FromZero, LagsDecideIn}
 
 module _ (lanes : Lanes) (gap : Gaps) (b : Book) (positive : Positive lanes) (orderly : Orderly lanes b) where
   -- a good plan keeps every lag
   keeps_lags : (α : ℕ → ℕ) → Good lanes gap b α → Solution (Lag lanes gap b) α
-  keeps_lags α good s t w (travel {c = c} {u = u} {v = v} {d = d} leg) = travel_up (α s) (α t) d (good.timed.travels c s u t v d leg)
+  keeps_lags α good s t w (travel {c = c} {u = u} {v = v} {d = d} leg) = let timed = good.timed.travels c s u t v d leg in omega (arith, ints)
   keeps_lags α good s t w (wait k {first = first} {second = second} {s = o} {u = u} {v = v} {d = d} stands leg visits) =
       let before : α s - d < α t = good.keeps k first second u o s v d t stands leg visits in
       let timed : α o + d ≤ α s = good.timed.travels first o u s v d leg in
       elim (dec_lt (α s - d + gap u v d) (α t)) [
-        | yes late ↦ wait_up (α s) (α t) d (gap u v d) (omega arith)
+        | yes late ↦ omega (arith, ints)
         | no soon ↦ absurd (good.free (following first second o u s v d t (orderly.differ k first second u stands) leg visits before (omega arith)))
       ]
 
@@ -63,15 +50,15 @@ module _ (lanes : Lanes) (gap : Gaps) (b : Book) (positive : Positive lanes) (or
     timed : Timed lanes b α
     timed = record {
       starts = starts;
-      travels = λ c s u t v d leg. travel_down (α s) (α t) d (kept s t (pos d) (travel leg));
+      travels = λ c s u t v d leg. let lag = kept s t (pos d) (travel leg) in omega (arith, ints);
     }
 
     -- who goes second arrives later than the gap after the first's departure
     clear : (k first second s u t v d r : ℕ) → Stands b k first second u → Leg lanes b first s u t v d → Visits b r second u → α t - d + gap u v d < α r
     clear k first second s u t v d r stands leg visits =
-        let w = wait_down (α t) (α r) d (gap u v d) (kept t r _ (wait k stands leg visits)) in
+        let lag = kept t r _ (wait k stands leg visits) in
         let on = timed.travels first s u t v d leg in
-        omega arith
+        omega (arith, ints)
 
     keeps : Keeps lanes b α
     keeps k first second u s t v d r stands leg visits = let far = clear k first second s u t v d r stands leg visits in omega arith
@@ -142,6 +129,3 @@ module _ (lanes : Lanes) (gap : Gaps) (b : Book) (positive : Positive lanes) (or
     opposed_none = no_plan;
     ring_none = λ l ring α g. ring_excludes (Lag lanes gap b) α (keeps_lags α g) l ring;
   }
-
-pub lags_decide_lem : LagsDecide
-lags_decide_lem lanes gap b positive orderly = decide_in lanes gap b positive orderly
