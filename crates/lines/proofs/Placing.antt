@@ -1,7 +1,7 @@
 -- Text that is placed in a page.
-use Rattle.std.proofs.Common.{◌≡◌, ℕ, ◌+◌, ◌-◌, ◌*◌, ◌≤◌, false, cond, ltb, List, [], ◌++◌, length, take, drop, is_ok, Ok, Result, sym, refl, ap, ◌∙◌, arith}
+use Rattle.std.proofs.Common.{◌≡◌, ℕ, ◌+◌, ◌-◌, ◌*◌, ◌≤◌, cond, List, [], ◌++◌, length, take, drop, is_ok, Ok, Result, sym, refl, ap, ◌∙◌, arith}
 use borrow.Rule.Slice.PartMut.{put_mid}
-use Rattle.std.proofs.lemmas.Bool.{ltb-false}
+use Rattle.std.proofs.lemmas.Bool.Decides.{nat_tests}
 use Rattle.std.proofs.lemmas.List.{drop-drop, drop_all, drop_at, take_at, append-nil, append_assoc, length-drop, length-take-le, take_rest}
 use Rattle.lines.specs.declared.refusal.WriteRefusal.{WriteRefusal}
 use Rattle.lines.specs.Digits.{digits}
@@ -21,11 +21,7 @@ landed page part bs at h e =
 
 -- a text that was placed went in whole
 placed : (page text : List ℕ) (at n : ℕ) → placing page at text ≡ Ok n → (at + length text ≤ length page) × (n ≡ length text)
-placed page text at n h =
-    let f : ltb (length page) (at + length text) ≡ false = grind arith in
-    let l = ltb-false (length page) (at + length text) f in
-    let m : n ≡ length text = grind arith in
-    (l, m)
+placed page text at n h = grind (arith, nat_tests)
 
 -- and stands in the page from the position on
 pub placed_there : (page text after : List ℕ) (at n : ℕ) (r : Result ℕ WriteRefusal) → r ≡ placing page at text → after ≡ cond (is_ok r) (written page at text) page → r ≡ Ok n → take n (drop at after) ≡ text

@@ -1,5 +1,5 @@
 -- What a line reads as, check by check.
-use Rattle.std.proofs.Common.{◌≡◌, ℕ, ◌%◌, ◌<◌, ◌≤◌, true, false, cond, ◌||◌, eqb, ltb, List, [], ◌∷◌, length, take, Err, Result, sym, ap, ◌∙◌, ⊎_elim, arith}
+use Rattle.std.proofs.Common.{◌≡◌, ℕ, ◌%◌, ◌<◌, ◌≤◌, true, false, cond, eqb, ltb, List, [], ◌∷◌, length, take, Err, Result, sym, ap, ◌∙◌, ⊎_elim, arith}
 use Rattle.std.proofs.lemmas.Bool.{cases_lt}
 use Rattle.std.proofs.lemmas.Bool.Decides.{nat_tests}
 use Rattle.std.proofs.lemmas.List.{take_all, length-take-le}
@@ -7,7 +7,7 @@ use Rattle.lines.specs.declared.entry.Entry.{Entry}
 use Rattle.lines.specs.declared.entry.Input.{Input}
 use Rattle.lines.specs.declared.refusal.LineRefusal.{LineRefusal}
 use Rattle.lines.specs.declared.refusal.LineRefusal.TheVariants.{BadDigit, BadLength}
-use Rattle.lines.specs.Digits.{first_bad_lem, line_bytes}
+use Rattle.lines.specs.Digits.{first_bad, line_bytes}
 use Rattle.lines.specs.Reading.{entry_of, checked, unknown_kind, wrong_length, bad_rule, reading}
 use Rattle.lines.proofs.Hexadecimal.{length_bytes}
 
@@ -21,30 +21,19 @@ any_saying input bs = cond (eqb (length bs) 0) (Err BadLength) (saying input bs)
 module _ (input : Input) (line : List ℕ) where
   pub long_line : 64 < length line → Err BadLength ≡ reading input line
   unfolding reading
-  long_line h =
-      let a : ltb 64 (length line) ≡ true = grind (arith, nat_tests) in
-      rw a
+  long_line h = grind (arith, nat_tests)
 
-  pub bad_line : length line ≤ 64 → ltb (first_bad_lem line) (length line) ≡ true → Err (BadDigit (first_bad_lem line)) ≡ reading input line
+  pub bad_line : length line ≤ 64 → ltb (first_bad line) (length line) ≡ true → Err (BadDigit (first_bad line)) ≡ reading input line
   unfolding reading
-  bad_line h b =
-      let a : ltb 64 (length line) ≡ false = grind (arith, nat_tests) in
-      rw (a, b)
+  bad_line h b = grind (arith, nat_tests)
 
-  pub odd_line : length line ≤ 64 → ltb (first_bad_lem line) (length line) ≡ false → length line % 2 ≡ 1 → Err BadLength ≡ reading input line
+  pub odd_line : length line ≤ 64 → ltb (first_bad line) (length line) ≡ false → length line % 2 ≡ 1 → Err BadLength ≡ reading input line
   unfolding reading
-  odd_line h b o =
-      let a : ltb 64 (length line) ≡ false = grind (arith, nat_tests) in
-      let d : (eqb (length line) 0 || eqb (length line % 2) 1) ≡ true = grind (arith, nat_tests) in
-      rw (a, b, d)
+  odd_line h b o = grind (arith, nat_tests)
 
-  pub even_line : length line ≤ 64 → ltb (first_bad_lem line) (length line) ≡ false → length line % 2 ≡ 0 → any_saying input (line_bytes line) ≡ reading input line
+  pub even_line : length line ≤ 64 → ltb (first_bad line) (length line) ≡ false → length line % 2 ≡ 0 → any_saying input (line_bytes line) ≡ reading input line
   unfolding reading
-  even_line h b o =
-      let a : ltb 64 (length line) ≡ false = grind (arith, nat_tests) in
-      let l = length_bytes line in
-      let d : (eqb (length line) 0 || eqb (length line % 2) 1) ≡ eqb (length (line_bytes line)) 0 = grind (arith, nat_tests) in
-      rw (a, b, d)
+  even_line h b o = grind (arith, nat_tests, length_bytes)
 
 -- the first 65 bytes of a line read as the whole line does
 pub reading_kept : (input : Input) (line : List ℕ) → reading input (take 65 line) ≡ reading input line

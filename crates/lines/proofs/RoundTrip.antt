@@ -1,9 +1,10 @@
 -- The line of an entry reads as that entry, and no other line does.
-use Rattle.std.proofs.Common.{◌≡◌, ℕ, zero, suc, ◌+◌, ◌*◌, ◌/◌, ◌%◌, ◌^◌, ◌<◌, ◌≤◌, Bool, true, false, cond, ◌&&◌, ◌||◌, eqb, ltb, List, [], ◌∷◌, length, get_or, take, Ok, Err, Result, sym, refl, ap, ◌∙◌, subst, arith, rules}
+use Rattle.std.proofs.Common.{◌≡◌, ◌↔◌, ℕ, zero, suc, ◌+◌, ◌*◌, ◌/◌, ◌%◌, ◌^◌, ◌<◌, ◌≤◌, Bool, true, false, cond, ◌&&◌, ◌||◌, eqb, ltb, List, [], ◌∷◌, length, get_or, is_none, take, Ok, Err, Result, sym, refl, ap, ◌∙◌, subst, arith, rules}
 use Rattle.std.specs.List.{AllByRecursion as All}
 use Rattle.std.proofs.lemmas.Bool.{cond_both, cond-false, eqb-true, eq-eqb, not-false, ltb-false}
 use Rattle.std.proofs.lemmas.Bool.Decides.{nat_tests}
 use Rattle.std.proofs.lemmas.List.{drop_more, drop_all}
+use Rattle.std.proofs.lemmas.List.Sums.{fails_before_first}
 use Rattle.lines.specs.declared.entry.Rule.{Rule}
 use Rattle.lines.specs.declared.entry.Rule.TheVariants.{FullLane, LaneLessOne, FixedGap}
 use Rattle.lines.specs.declared.entry.Entry.{Entry}
@@ -12,7 +13,7 @@ use Rattle.lines.specs.declared.entry.Input.{Input}
 use Rattle.lines.specs.declared.entry.Input.TheVariants.{Yard, Sheet}
 use Rattle.lines.specs.declared.refusal.LineRefusal.{LineRefusal}
 use Rattle.lines.specs.declared.refusal.LineRefusal.TheVariants.{BadLength}
-use Rattle.lines.specs.Digits.{first_bad_lem, digits, line_bytes, two}
+use Rattle.lines.specs.Digits.{value_of, first_bad, digits, line_bytes, two}
 use Rattle.lines.specs.Entries.{kind_of, fields_of, rule_byte, gap_of, line_of, Lawful, has, Says}
 use Rattle.lines.specs.Reading.{Check, checks, checked, first_byte, word, size_of, unruled, rule_of, entry_of, reading}
 use Rattle.lines.proofs.Hexadecimal.{length_digits, bytes_digits, first_bad_digits, digits_bytes, small_bytes}
@@ -61,8 +62,8 @@ read_back input e h k =
     let bs = kind_of e ∷ fields_of e in
     let z = sizes e in
     let n : length (digits bs) ≡ 2 * length bs = length_digits bs in
-    let c : first_bad_lem (digits bs) ≡ length (digits bs) = first_bad_digits bs (small_fields e h) in
-    let q : ltb (first_bad_lem (digits bs)) (length (digits bs)) ≡ false = grind (arith, nat_tests) in
+    let c : first_bad (digits bs) ≡ length (digits bs) = first_bad_digits bs (small_fields e h) in
+    let q : ltb (first_bad (digits bs)) (length (digits bs)) ≡ false = grind (arith, nat_tests) in
     let some : eqb (length bs) 0 ≡ false = grind (arith, nat_tests) in
     sym (even_line input (digits bs) (omega arith) q (omega arith))
     ∙ ap (any_saying input) (bytes_digits bs (small_fields e h))
@@ -212,19 +213,20 @@ unfolding reading line_of
 only_line input line e h =
     let bs = line_bytes line in
     let p = passes (checks input line) (entry_of bs) e h in
-    let clear : ltb (first_bad_lem line) (length line) ≡ false = p.0.1.0 in
+    let clear : ltb (first_bad line) (length line) ≡ false = p.0.1.0 in
     let shape : (eqb (length line) 0 || eqb (length line % 2) 1) ≡ false = p.0.1.1.0 in
     let had : has input (first_byte bs) ≡ true = not-false (has input (first_byte bs)) p.0.1.1.1.0 in
     let sized : length bs ≡ size_of (first_byte bs) = eqb-true (length bs) (size_of (first_byte bs)) (not-false (eqb (length bs) (size_of (first_byte bs))) p.0.1.1.1.1.0) in
     let k = known input (first_byte bs) had in
     let m = made bs (small_bytes line) k.0 k.1 sized p.0.1.1.1.1.1.0 in
     let even : length line % 2 ≡ 0 = grind (arith, nat_tests) in
-    let again = digits_bytes line (ltb-false (first_bad_lem line) (length line) clear) even in
+    let all = ltb-false (first_bad line) (length line) clear in
+    let again = digits_bytes line (λ k l. fails_before_first (λ b. is_none (value_of b)) line k 0 (omega arith)) even in
     let P : Entry → Type 0 = Says input line in
     subst P p.1 (sym again ∙ ap digits m.0, m.1, ap (has input) m.2 ∙ had)
 
 -- what follows for an answer that is the reading of a line
-pub exactly : (input : Input) (line : List ℕ) (r : Result Entry LineRefusal) → r ≡ reading input line → (e : Entry) → (r ≡ Ok e → Says input line e) × (Says input line e → r ≡ Ok e)
+pub exactly : (input : Input) (line : List ℕ) (r : Result Entry LineRefusal) → r ≡ reading input line → (e : Entry) → (r ≡ Ok e) ↔ Says input line e
 exactly input line r s e = (λ h. only_line input line e (sym s ∙ h), λ y. s ∙ (ap (reading input) y.0 ∙ read_back input e y.1 y.2))
 
 pub of_kept : (input : Input) (line : List ℕ) (r : Result Entry LineRefusal) → r ≡ reading input line → (whole : List ℕ) → line ≡ take 65 whole → r ≡ reading input whole

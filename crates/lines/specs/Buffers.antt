@@ -4,7 +4,7 @@ use Rattle.lines.specs.declared.buffer.LineBuffer.{LineBuffer}
 
 -- the bytes that are kept
 abbrev pub kept : LineBuffer → List ℕ
-kept b = take b.count b.bytes
+kept b = b.bytes.items
 
 -- what the buffer keeps of a line whose bytes were pushed since it was new or cleared: the first 65
 abbrev pub Keeps : LineBuffer → List ℕ → Type 0

@@ -7,7 +7,7 @@ use Rattle.lines.specs.declared.entry.Entry.TheVariants.{Carrier, Stop, Preceden
 use Rattle.lines.specs.declared.entry.Input.{Input}
 use Rattle.lines.specs.declared.refusal.LineRefusal.{LineRefusal}
 use Rattle.lines.specs.declared.refusal.LineRefusal.TheVariants.{BadDigit, BadLength, UnknownKind, BadRule}
-use Rattle.lines.specs.Digits.{first_bad_lem, line_bytes}
+use Rattle.lines.specs.Digits.{first_bad, line_bytes}
 use Rattle.lines.specs.Entries.{has}
 
 -- the number in two bytes from a place on
@@ -37,7 +37,7 @@ too_long line = record { applies = nat_lt 64 (length line); refusal = BadLength 
 
 -- some byte is no digit
 abbrev pub bad_digit : List ℕ → Check
-bad_digit line = record { applies = nat_lt (first_bad_lem line) (length line); refusal = BadDigit (first_bad_lem line) }
+bad_digit line = record { applies = nat_lt (first_bad line) (length line); refusal = BadDigit (first_bad line) }
 
 -- the line is empty, or has an odd number of digits
 abbrev pub empty_or_odd : List ℕ → Check

@@ -1,12 +1,54 @@
 // A buffer for the line that is being read.
-ghost use Rattle.std.specs.Prelude.{◌≤◌};
+ghost use Rattle.std.specs.Prelude.{◌≡◌, ℕ, List, [], ◌∷◌, ◌++◌, length, take, nat_lt};
 
-mod calls;
+use arrayvec::ArrayVec;
 
 // The first 65 bytes of a line: one more than a line may have, so that a longer one is seen to be too long.
 #[derive(Drop)]
 pub struct LineBuffer {
-    bytes: [u8; 65],
-    count: usize,
-    ghost within: { count ≤ 65 },
+    bytes: ArrayVec<u8, 65>,
+}
+
+impl LineBuffer {
+    ghost use Rattle.lines.specs.Buffers.{kept, Keeps};
+
+    // A buffer of an empty line.
+    pub fn new() -> LineBuffer
+        ensures { kept result ≡ [] }
+    {
+        let bytes = ArrayVec::new();
+        LineBuffer { bytes }
+    }
+
+    // Takes in the next byte of the line; past the 65th none is kept.
+    pub fn push(&mut self, byte: u8)
+        ensures next { kept self.new ≡ take 65 (kept self.old ++ byte ∷ []) }
+        ensures whole { (line : List ℕ) → Keeps self.old line → Keeps self.new (line ++ byte ∷ []) }
+    {
+        if !self.bytes.is_full() {
+            self.bytes.push(byte);
+        }
+    }
+
+    // Begins a new line.
+    pub fn clear(&mut self)
+        ensures { kept self.new ≡ [] }
+    {
+        self.bytes.clear();
+    }
+
+    // Whether the line has a byte.
+    pub fn is_started(&self) -> bool
+        ensures started { result ≡ nat_lt 0 (length (kept self.now)) }
+        ensures whole { (line : List ℕ) → Keeps self.now line → result ≡ nat_lt 0 (length line) }
+    {
+        !self.bytes.is_empty()
+    }
+
+    // The bytes that are kept.
+    pub fn line(&self) -> &[u8]
+        ensures { result.now ≡ kept self.now }
+    {
+        self.bytes.as_slice()
+    }
 }

@@ -1,73 +1,60 @@
 // Bytes as capital hexadecimal digits.
-ghost use Rattle.std.specs.Prelude.{◌≡◌, ◌*◌, ◌/◌, ◌%◌, ◌<◌, ◌≤◌, ◌++◌, length, take, drop, if◌then◌else◌, Ok, Err, nat_lt};
-ghost use Rattle.std.specs.Option.{unwrap_or};
+ghost use Rattle.std.specs.Prelude.{◌≡◌, ◌*◌, ◌/◌, ◌%◌, ◌<◌, ◌≤◌, ◌++◌, length, drop, is_none, position, if◌then◌else◌, Ok, Err, nat_lt};
 ghost use Rattle.lines.specs.declared.refusal.LineRefusal.TheVariants.{BadDigit};
-ghost use Rattle.lines.specs.Digits.{digit_for, value_of, first_bad_lem, digits, line_bytes};
+ghost use Rattle.lines.specs.Digits.{digit_for, value_of, first_bad, digits, line_bytes};
 
 use crate::refusal::LineRefusal;
+use arrayvec::ArrayVec;
 
-// The value of a digit; any other byte has none.
-fn digit_value(byte: u8) -> Option<u8>
+// The value of a digit, 0 to 9 or A to F; any other byte has none. Two comparisons are faster than a match on the ranges.
+pub fn digit_value(byte: u8) -> Option<u8>
     ensures { result ≡ value_of byte }
-{
-    match byte {
-        b'0'..=b'9' => Some(byte - b'0'),
-        b'A'..=b'F' => Some(byte - b'A' + 10),
-        _ => None,
-    }
-}
-
-// The column of the first byte that is no digit, or the length.
-fn first_bad(line: &[u8]) -> usize
-    ensures { result ≡ first_bad_lem line.now }
-{
-    for (i, byte) in line.iter().enumerate() {
-        if digit_value(*byte).is_none() {
-            return i;
-        }
-    }
-    line.len()
-}
-
-// Refuses a line that has a byte which is no digit.
-pub(crate) fn check_digits(line: &[u8]) -> Result<(), LineRefusal>
-    requires { length line.now ≤ 64 }
-    ensures { result ≡ (if nat_lt (first_bad_lem line.now) (length line.now) then Err (BadDigit (first_bad_lem line.now)) else Ok tt) }
-{
-    let column = first_bad(line);
-    if column < line.len() {
-        return Err(LineRefusal::BadDigit {
-            column: column as u16,
-        });
-    }
-    Ok(())
-}
-
-// The value of a digit, or 0 for any other byte.
-fn value_or_zero(byte: u8) -> u8
-    ensures value { result ≡ unwrap_or (value_of byte) 0 }
-    ensures small { result < 16 }
 {
     let decimal = byte.wrapping_sub(b'0');
     let letter = byte.wrapping_sub(b'A');
     if decimal < 10 {
-        decimal
+        Some(decimal)
     } else if letter < 6 {
-        letter + 10
+        Some(letter + 10)
     } else {
-        0
+        None
     }
 }
 
-// Writes the bytes that a line of digits stands for to the front of `decoded`.
-pub(crate) fn decode(line: &[u8], decoded: &mut [u8])
-    requires even { length line.now % 2 ≡ 0 }
-    requires room { length line.now ≤ 2 * length decoded.old }
-    ensures { take (length line.now / 2) decoded.new ≡ line_bytes line.now }
+// The column of the first byte that is no digit.
+fn bad_column(line: &[u8]) -> Option<usize>
+    ensures { result ≡ position (λ b. is_none (value_of b)) line.now }
 {
-    for i in 0..line.len() / 2 {
-        decoded[i] = value_or_zero(line[2 * i]) * 16 + value_or_zero(line[2 * i + 1]);
+    line.iter().position(|byte| digit_value(*byte).is_none())
+}
+
+// Refuses a line that has a byte which is no digit, with the column of the first.
+pub(crate) fn check_digits(line: &[u8]) -> Result<(), LineRefusal>
+    requires { length line.now ≤ 64 }
+    ensures { result ≡ (if nat_lt (first_bad line.now) (length line.now) then Err (BadDigit (first_bad line.now)) else Ok tt) }
+{
+    match bad_column(line) {
+        Some(column) => Err(LineRefusal::BadDigit {
+            column: column as u16,
+        }),
+        None => Ok(()),
     }
+}
+
+// The bytes that a line of digits stands for. Other bytes were refused before, so no 0 stands in for one.
+pub(crate) fn decode(line: &[u8]) -> ArrayVec<u8, 32>
+    requires even { length line.now % 2 ≡ 0 }
+    requires short { length line.now ≤ 64 }
+    ensures { result.items ≡ line_bytes line.now }
+{
+    let (pairs, _) = line.as_chunks::<2>();
+    let mut decoded = ArrayVec::new();
+    for [high, low] in pairs {
+        let high = digit_value(*high).unwrap_or(0);
+        let low = digit_value(*low).unwrap_or(0);
+        decoded.push(high * 16 + low);
+    }
+    decoded
 }
 
 // The digit of a value below 16.
@@ -87,6 +74,7 @@ pub(crate) fn encode(bytes: &[u8], part: &mut [u8])
     requires room { 2 * length bytes.now ≤ length part.old }
     ensures { part.new ≡ digits bytes.now ++ drop (2 * length bytes.now) part.old }
 {
+    // By the index, as nothing is promised of what a slice holds after `as_chunks_mut` or a zip over `iter_mut`.
     for (i, byte) in bytes.iter().enumerate() {
         part[2 * i] = digit_of(*byte / 16);
         part[2 * i + 1] = digit_of(*byte % 16);

@@ -1,4 +1,5 @@
 // What a line says.
+ghost use Rattle.std.specs.Prelude.{◌≡◌};
 
 // A following rule, as a judging names it.
 #[derive(Clone, Copy, PartialEq, Eq, Debug)]
@@ -32,4 +33,19 @@ pub enum Input {
     Yard,
     // The lines of a sheet: the kinds 01 to 05.
     Sheet,
+}
+
+impl Input {
+    ghost use Rattle.lines.specs.Entries.{has};
+
+    // Whether the input has lines of a kind. A kind stays the byte that stands in a line: it is read and written as one
+    // of a slice of bytes, and `Entry` is the enum of the kinds.
+    pub(crate) fn has_kind(self, kind: u8) -> bool
+        ensures { result ≡ has self kind }
+    {
+        match self {
+            Input::Yard => kind == 0x06,
+            Input::Sheet => matches!(kind, 0x01..=0x05),
+        }
+    }
 }

@@ -2,7 +2,7 @@
 #![tactic(auto)]
 
 pub mod buffer;
-mod digits;
+pub mod digits;
 pub mod entry;
 pub mod page;
 pub mod read;

@@ -15,7 +15,7 @@ pub enum LineRefusal {
 }
 
 impl LineRefusal {
-    // The number of the refusal.
+    // The number of the refusal in a reply, as the format of the lines has it.
     pub fn number(&self) -> u8
         ensures { result ≡ number_of self.now }
     {
@@ -49,7 +49,7 @@ pub enum WriteRefusal {
 }
 
 impl WriteRefusal {
-    // The number of the refusal. It tells nothing else.
+    // The number of the refusal in a reply. It tells nothing else.
     pub fn number(&self) -> u8
         ensures { result ≡ write_number_of self.now }
     {

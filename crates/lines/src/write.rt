@@ -10,7 +10,7 @@ use crate::entry::{Entry, Input, Rule};
 use crate::page::write_bytes;
 use crate::refusal::WriteRefusal;
 
-// The rule byte, and the gap beside it.
+// The rule byte, and the gap beside it: two fields of a line, as `read_rule` takes them.
 fn rule_fields(rule: Rule) -> Result<(u8, u16), WriteRefusal>
     ensures { result ≡ (if nat_lt 36000 (gap_of rule) then Err GapTooLong else Ok (rule_byte rule, gap_of rule)) }
 {
@@ -33,7 +33,8 @@ fn write_judge(rule: Rule, page: &mut [u8], at: usize) -> Result<usize, WriteRef
     write_bytes(&[0x05, byte, g1, g0], page, at)
 }
 
-// Writes the line of an entry into the page from the position `at` on, and answers how many bytes these are.
+// Writes the line of an entry into the page from the position `at` on, and answers how many bytes these are. The kinds
+// stay bytes: `Entry` is their enum, and the arms are the table of the format.
 pub fn write_entry(entry: &Entry, page: &mut [u8], at: usize) -> Result<usize, WriteRefusal>
     ensures value { result ≡ writing page.old at entry.now }
     ensures after { page.new ≡ (if is_ok result then written page.old at (line_of entry.now) else page.old) }

@@ -16,8 +16,8 @@ fn push_numbers(buffer: &mut LineBuffer, count: u16) {
 fn check_kept(rt: &impl Abort, buffer: &LineBuffer, kept: usize) {
     assert_eq!(rt; buffer.line().len(), kept);
     assert_eq!(rt; buffer.is_started(), kept > 0);
-    for (i, byte) in buffer.line().iter().enumerate() {
-        assert_eq!(rt; usize::from(*byte), i.wrapping_add(1));
+    for (byte, number) in buffer.line().iter().zip(1..) {
+        assert_eq!(rt; *byte, number);
     }
 }
 

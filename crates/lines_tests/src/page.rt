@@ -3,7 +3,7 @@ use lines::entry::Entry;
 use lines::page::write_bytes;
 use lines::refusal::WriteRefusal;
 use lines::write::write_entry;
-use replies::reply::{write_accepted, write_passed, write_refused, write_ring};
+use replies::reply::Reply;
 use std::process::Abort;
 use std::test::Fail;
 
@@ -22,31 +22,10 @@ impl Text for Entry {
     }
 }
 
-// That a call is accepted, with the number that it answers.
-impl Text for u16 {
+// A reply.
+impl Text for Reply<'_> {
     fn write(&self, page: &mut [u8], at: usize) -> Result<usize, WriteRefusal> {
-        write_accepted(*self, page, at)
-    }
-}
-
-// That a judging passes, with its arrivals.
-impl Text for &[u32] {
-    fn write(&self, page: &mut [u8], at: usize) -> Result<usize, WriteRefusal> {
-        write_passed(self, page, at)
-    }
-}
-
-// That a judging finds a ring, with its stops.
-impl Text for &[u16] {
-    fn write(&self, page: &mut [u8], at: usize) -> Result<usize, WriteRefusal> {
-        write_ring(self, page, at)
-    }
-}
-
-// Any other refusal: its number and what it tells.
-impl Text for (u8, u16, u16) {
-    fn write(&self, page: &mut [u8], at: usize) -> Result<usize, WriteRefusal> {
-        write_refused(self.0, self.1, self.2, page, at)
+        Reply::write(self, page, at)
     }
 }
 

@@ -4,6 +4,7 @@ use crate::reading::check_read;
 use lines::entry::Input;
 use lines::read::read_entry;
 use lines::refusal::LineRefusal;
+use replies::reply::Reply;
 use std::process::Abort;
 use std::test::Fail;
 
@@ -88,7 +89,11 @@ fn check_refused(rt: &impl Abort, line: &[u8], input: Input, reply: &[u8]) -> Re
         assert!(rt; false, "the line is read");
         return Ok(());
     };
-    let told = (refusal.number(), refusal.told(), 0);
+    let told = Reply::Refused {
+        number: refusal.number(),
+        first: refusal.told(),
+        second: 0,
+    };
     check_written(rt, &told, 10, 0, Ok(10), reply)
 }
 
@@ -119,8 +124,8 @@ fn refused_lines_have_their_replies(rt: HostRuntime) -> Result<(), Fail> {
 // The line with zeros after it.
 fn with_zeros(line: &[u8]) -> [u8; 70] {
     let mut long = [b'0'; 70];
-    for i in 0..70 {
-        long[i] = line.get(i).copied().unwrap_or(b'0');
+    for (zero, byte) in long.iter_mut().zip(line) {
+        *zero = *byte;
     }
     long
 }
@@ -157,11 +162,9 @@ fn check_byte(rt: &impl Abort, line: &[u8], column: u16, byte: u8) -> Result<(),
 
 // The same of each byte at each column.
 fn check_bytes(rt: &impl Abort, line: &[u8]) -> Result<(), Fail> {
-    for column in 0..64 {
-        if usize::from(column) < line.len() {
-            for byte in 0..=255 {
-                check_byte(rt, line, column, byte)?;
-            }
+    for column in (0..64).take(line.len()) {
+        for byte in 0..=255 {
+            check_byte(rt, line, column, byte)?;
         }
     }
     Ok(())
@@ -170,8 +173,8 @@ fn check_bytes(rt: &impl Abort, line: &[u8]) -> Result<(), Fail> {
 // A line of 64 bytes, which are bad digits from the column on.
 fn bad_from(column: u16) -> [u8; 64] {
     let mut line = [b'0'; 64];
-    for i in usize::from(column)..64 {
-        line[i] = b'G';
+    for byte in line.iter_mut().skip(usize::from(column)) {
+        *byte = b'G';
     }
     line
 }

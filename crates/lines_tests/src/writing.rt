@@ -2,6 +2,7 @@
 use crate::page::{Text, check_digits, check_refused};
 use lines::entry::{Entry, Rule};
 use lines::refusal::WriteRefusal;
+use replies::reply::Reply;
 use std::process::Abort;
 use std::test::Fail;
 
@@ -66,39 +67,94 @@ const LINES: [(Entry, &[u8]); 8] = [
 ];
 
 // Accepted calls.
-const ACCEPTED: [(u16, &[u8]); 3] = [(0, b"000000"), (2048, b"000800"), (65535, b"00FFFF")];
+const ACCEPTED: [(Reply, &[u8]); 3] = [
+    (Reply::Accepted { number: 0 }, b"000000"),
+    (Reply::Accepted { number: 2048 }, b"000800"),
+    (Reply::Accepted { number: 65535 }, b"00FFFF"),
+];
 
 // Judgings that pass.
-const PASSED: [(&[u32], &[u8]); 5] = [
-    (&[], b"000000"),
-    (&[4294967295], b"000001FFFFFFFF"),
+const PASSED: [(Reply, &[u8]); 5] = [
+    (Reply::Passed { arrivals: &[] }, b"000000"),
     (
-        &[0, 36864000, 4294967295],
+        Reply::Passed {
+            arrivals: &[4294967295],
+        },
+        b"000001FFFFFFFF",
+    ),
+    (
+        Reply::Passed {
+            arrivals: &[0, 36864000, 4294967295],
+        },
         b"0000030000000002328000FFFFFFFF",
     ),
     (
-        &[0, 0, 0, 1, 1, 1],
+        Reply::Passed {
+            arrivals: &[0, 0, 0, 1, 1, 1],
+        },
         b"000006000000000000000000000000000000010000000100000001",
     ),
     (
-        &[0, 0, 8, 10, 14, 2, 7],
+        Reply::Passed {
+            arrivals: &[0, 0, 8, 10, 14, 2, 7],
+        },
         b"0000070000000000000000000000080000000A0000000E0000000200000007",
     ),
 ];
 
 // Judgings that find a ring.
-const RINGS: [(&[u16], &[u8]); 2] = [
-    (&[3, 5, 4], b"110003000300050004"),
-    (&[255, 1023], b"11000200FF03FF"),
+const RINGS: [(Reply, &[u8]); 2] = [
+    (Reply::Ring { stops: &[3, 5, 4] }, b"110003000300050004"),
+    (
+        Reply::Ring {
+            stops: &[255, 1023],
+        },
+        b"11000200FF03FF",
+    ),
 ];
 
 // Other refusals.
-const REFUSED: [((u8, u16, u16), &[u8]); 5] = [
-    ((9, 0, 0), b"0900000000"),
-    ((15, 2, 5), b"0F00020005"),
-    ((16, 1, 2), b"1000010002"),
-    ((19, 8191, 0), b"131FFF0000"),
-    ((22, 10, 0), b"16000A0000"),
+const REFUSED: [(Reply, &[u8]); 5] = [
+    (
+        Reply::Refused {
+            number: 9,
+            first: 0,
+            second: 0,
+        },
+        b"0900000000",
+    ),
+    (
+        Reply::Refused {
+            number: 15,
+            first: 2,
+            second: 5,
+        },
+        b"0F00020005",
+    ),
+    (
+        Reply::Refused {
+            number: 16,
+            first: 1,
+            second: 2,
+        },
+        b"1000010002",
+    ),
+    (
+        Reply::Refused {
+            number: 19,
+            first: 8191,
+            second: 0,
+        },
+        b"131FFF0000",
+    ),
+    (
+        Reply::Refused {
+            number: 22,
+            first: 10,
+            second: 0,
+        },
+        b"16000A0000",
+    ),
 ];
 
 // Plain bytes.
@@ -142,20 +198,22 @@ fn check_long(rt: &impl Abort, text: &impl Text, page: &mut [u8], head: &[u8; 6]
     let size = page.len();
     assert_eq!(rt; text.write(page, 1), Err(WriteRefusal::PageTooShort));
     assert_eq!(rt; text.write(page, 0), Ok(size));
-    for (i, byte) in page.iter().enumerate() {
-        let digit = if i < 6 { head[i] } else { each[(i - 6) % 8] };
-        assert_eq!(rt; *byte, digit);
+    for (byte, digit) in page.iter().zip(head.iter().chain(each.iter().cycle())) {
+        assert_eq!(rt; *byte, *digit);
     }
 }
 
 // The longest reply to a sheet has 1,024 arrivals. A list has at most 65,535 numbers.
 #[test]
 fn long_lists(rt: HostRuntime) -> Result<(), Fail> {
-    let arrivals: &[u32] = &[258; 1024];
-    check_long(&rt, &arrivals, &mut [b'.'; 8198], b"000400", b"00000102");
-    let stops: &[u16] = &[772; 65535];
-    check_long(&rt, &stops, &mut [b'.'; 262146], b"11FFFF", b"03040304");
-    let too_many: &[u16] = &[772; 65536];
+    let arrivals = &[258; 1024];
+    let passed = Reply::Passed { arrivals };
+    check_long(&rt, &passed, &mut [b'.'; 8198], b"000400", b"00000102");
+    let stops = &[772; 65535];
+    let ring = Reply::Ring { stops };
+    check_long(&rt, &ring, &mut [b'.'; 262146], b"11FFFF", b"03040304");
+    let stops = &[772; 65536];
+    let too_many = Reply::Ring { stops };
     check_refused(&rt, &too_many, WriteRefusal::ListTooLong)?;
     assert_eq!(rt; WriteRefusal::ListTooLong.number(), 12);
     Ok(())

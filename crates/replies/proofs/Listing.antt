@@ -1,10 +1,12 @@
 -- Numbers written one after the other.
-use Rattle.std.proofs.Common.{◌≡◌, ℕ, suc, ◌+◌, ◌-◌, ◌*◌, ◌<◌, ◌≤◌, true, false, cond, ltb, List, [], ◌∷◌, ◌++◌, length, get_or, take, drop, is_ok, Ok, Err, Result, sym, refl, ap, ◌∙◌, mul_assoc, mul-zero, mul-suc, arith}
+use Rattle.std.proofs.Common.{◌≡◌, ℕ, suc, ◌+◌, ◌-◌, ◌*◌, ◌<◌, ◌≤◌, false, cond, ltb, List, [], ◌∷◌, ◌++◌, length, get_or, take, drop, is_ok, Ok, Err, Result, sym, ap, ◌∙◌, mul_assoc, mul-zero, mul-suc, arith}
 use borrow.Rule.Slice.PartMut.{put_mid}
 use Rattle.std.specs.List.{flat_map, AllByRecursion as All}
 use Rattle.std.proofs.ByRecursion.{All-append}
 use Rattle.std.proofs.lemmas.Bool.Decides.{nat_tests}
-use Rattle.std.proofs.lemmas.List.{append_assoc, append-nil, length-append, length-drop, length-take-le, take_at, drop_at, drop-drop, take_more, take-append-drop}
+use Rattle.std.proofs.lemmas.Grind.{common_steps}
+use Rattle.std.proofs.lemmas.List.Folds.{length-flat_map-take}
+use Rattle.std.proofs.lemmas.List.{append_assoc, length-append, length-drop, length-take-le, take_at, drop_at, drop-drop}
 use Rattle.lines.specs.declared.refusal.WriteRefusal.{WriteRefusal}
 use Rattle.lines.specs.declared.refusal.WriteRefusal.TheVariants.{PageTooShort, ListTooLong}
 use Rattle.lines.specs.Digits.{digits, two}
@@ -28,16 +30,8 @@ all_joined f P h [] = tt
 all_joined f P h (x ∷ xs) = All-append P (f x) (flat_map f xs) (h x) (all_joined f P h xs)
 
 module _ {X : Type 0} (f : X → List ℕ) where
-  pub joined_append : (xs ys : List X) → flat_map f (xs ++ ys) ≡ flat_map f xs ++ flat_map f ys
-  joined_append [] ys = refl
-  joined_append (x ∷ xs) ys = ap (λ (t : List ℕ). f x ++ t) (joined_append xs ys) ∙ sym (append_assoc (f x) (flat_map f xs) (flat_map f ys))
-
-  pub joined_take_more : (xs : List X) (i : ℕ) (x : X) → i < length xs → x ≡ get_or xs i x → flat_map f (take (i + 1) xs) ≡ flat_map f (take i xs) ++ f x
-  joined_take_more xs i x h e =
-      let t = take_more xs i x h in
-      let a = joined_append (take i xs) (get_or xs i x ∷ []) in
-      let n : flat_map f (get_or xs i x ∷ []) ≡ f (get_or xs i x) = append-nil (f (get_or xs i x)) in
-      cc
+  joined_take_more : (xs : List X) (i : ℕ) (x : X) → i < length xs → x ≡ get_or xs i x → flat_map f (take (i + 1) xs) ≡ flat_map f (take i xs) ++ f x
+  joined_take_more xs i x h e = grind (arith, common_steps)
 
   pub length_joined : (size : ℕ) → ((x : X) → length (f x) ≡ size) → (xs : List X) → length (flat_map f xs) ≡ size * length xs
   length_joined size h [] = sym (mul-zero size)
@@ -54,14 +48,6 @@ module _ {X : Type 0} (f : X → List ℕ) where
       let j = length_joined size h xs in
       let m = mul_assoc 2 size (length xs) in
       omega arith
-
-  -- the part of a list takes no more room than the list
-  pub joined_take : (xs : List X) (i : ℕ) → length (flat_map f (take i xs)) ≤ length (flat_map f xs)
-  joined_take xs i =
-      let t = take-append-drop i xs in
-      let a : flat_map f xs ≡ flat_map f (take i xs) ++ flat_map f (drop i xs) = ap (flat_map f) (sym t) ∙ joined_append (take i xs) (drop i xs) in
-      let l = length-append (flat_map f (take i xs)) (flat_map f (drop i xs)) in
-      omega (arith, ap length a)
 
   -- a number of the list is written after those before it
   module _ (xs : List X) (i : ℕ) (x : X) (start part after : List ℕ) (at : ℕ) (r : Result ℕ WriteRefusal)
@@ -80,11 +66,12 @@ module _ {X : Type 0} (f : X → List ℕ) where
     size = length_digits (f x)
 
     next : at + 2 * length (f x) ≡ 2 * length (flat_map f (take (i + 1) xs))
-    next = omega (arith, ap length more, length-append (flat_map f (take i xs)) (f x))
+    next = grind (arith, more, common_steps)
 
     fits : at + length (digits (f x)) ≤ length part
     fits =
-        let j = joined_take xs (i + 1) in
+        let j = length-flat_map-take f xs i x within in
+        let h = ap (λ (y : X). length (f y)) here in
         let l = length-append (digits (flat_map f (take i xs))) (drop at start) in
         let d = length-drop at start in
         let n = next in
@@ -94,10 +81,7 @@ module _ {X : Type 0} (f : X → List ℕ) where
 
     -- it is not refused
     taken : r ≡ Ok (2 * length (f x))
-    taken =
-        let k = fits in
-        let b : ltb (length part) (at + length (digits (f x))) ≡ false = grind (arith, nat_tests) in
-        value ∙ rw (b, size)
+    taken = grind (arith, nat_tests, fits, size)
 
     one_more : after ≡ cond (is_ok r) (written part at (digits (f x))) part → after ≡ digits (flat_map f (take (i + 1) xs)) ++ drop (at + 2 * length (f x)) start
     one_more e =
@@ -126,12 +110,7 @@ appended page front text at h =
     cc
 
 length_written : (page text : List ℕ) (at : ℕ) → at + length text ≤ length page → length (written page at text) ≡ length page
-length_written page text at h =
-    let t = length-take-le at page (omega arith) in
-    let d = length-drop (at + length text) page in
-    let a = length-append text (drop (at + length text) page) in
-    let b = length-append (take at page) (text ++ drop (at + length text) page) in
-    omega arith
+length_written page text at h = grind (arith, common_steps)
 
 module _ {X : Type 0} (f : X → List ℕ) (size : ℕ) (sized : (x : X) → length (f x) ≡ size) (code : ℕ) (xs : List X) (page : List ℕ) (at : ℕ)
     (few : length xs < 65536) where
@@ -139,20 +118,13 @@ module _ {X : Type 0} (f : X → List ℕ) (size : ℕ) (sized : (x : X) → len
   counted = grind (arith, nat_tests)
 
   pub too_short : length page < at + (6 + 2 * size * length xs) → Err PageTooShort ≡ cond (ltb 65535 (length xs)) (Err ListTooLong) (placing page at (digits (listed code f xs)))
-  too_short h =
-      let n = length_listed f size sized code xs in
-      let b : ltb (length page) (at + length (digits (listed code f xs))) ≡ true = grind (arith, nat_tests) in
-      let c = counted in
-      rw (c, b)
+  too_short h = grind (arith, nat_tests, length_listed f size sized code xs)
 
   pub fitting : at + (6 + 2 * size * length xs) ≤ length page → Ok (6 + 2 * size * length xs) ≡ placing page at (digits (listed code f xs))
-  fitting h =
-      let n = length_listed f size sized code xs in
-      let b : ltb (length page) (at + length (digits (listed code f xs))) ≡ false = grind (arith, nat_tests) in
-      rw (b, n)
+  fitting h = grind (arith, nat_tests, length_listed f size sized code xs)
 
   pub counting : placing page at (digits (listed code f xs)) ≡ cond (ltb 65535 (length xs)) (Err ListTooLong) (placing page at (digits (listed code f xs)))
-  counting = let c = counted in rw c
+  counting = grind (arith, nat_tests)
 
   pub small_listed : code < 256 → ((x : X) → All (λ b. b < 256) (f x)) → All (λ b. b < 256) (listed code f xs)
   small_listed h k = (h, (omega arith, (omega arith, all_joined f (λ b. b < 256) k xs)))

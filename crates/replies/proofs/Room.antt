@@ -1,6 +1,5 @@
 -- Whether a page has room for a reply, and what then stands in it.
 use Rattle.std.proofs.Common.{◌≡◌, ℕ, ◌+◌, ◌*◌, ◌≤◌, true, false, cond, ltb, List, length, take, drop, is_ok, IfOk, Ok, Err, Result, sym, refl, ap, ◌∙◌, arith}
-use Rattle.std.proofs.lemmas.Bool.{ltb-false}
 use Rattle.std.proofs.lemmas.Bool.Decides.{nat_tests}
 use Rattle.lines.specs.Pages.{placing, written}
 use Rattle.lines.specs.declared.refusal.WriteRefusal.{WriteRefusal}
@@ -45,10 +44,7 @@ module _ (page : List ℕ) (at : ℕ) (r : Result ℕ WriteRefusal) (reply : Ans
       made_by r (λ n. at + n ≤ length page)
       (λ n ok.
       let p = sym reply_placed ∙ ok in
-      let f : ltb (length page) (at + length (line_of reply)) ≡ false = grind arith in
-      let m : n ≡ length (line_of reply) = grind arith in
-      let l = ltb-false (length page) (at + length (line_of reply)) f in
-      omega arith)
+      grind (arith, nat_tests))
 
   -- where it stands
   pub reply_there : (page' : List ℕ) → page' ≡ cond (is_ok r) (written page at (line_of reply)) page → (n : ℕ) → r ≡ Ok n → take n (drop at page') ≡ line_of reply

@@ -8,13 +8,8 @@ use Rattle.lines.proofs.Hexadecimal.{length_digits, bytes_digits}
 use Rattle.lines.proofs.Placing.{landed, placed_there}
 use Rattle.lines.proofs.page.write_bytes.Goals as goal
 
-pub returns-then-at-page : goal.returns-then-at-page
-returns-then-at-page c =
-    record {
-      value = grind (arith, nat_tests, length_digits c.args.bytes.now);
-      after = search rules;
-      back = λ n h. let z : ◌≡◌ {A = ℕ} 0 1 = cc in absurd (omega arith);
-    }
+pub returns-then-at-page-clause-value : goal.returns-then-at-page-clause-value
+returns-then-at-page-clause-value c = grind (arith, nat_tests, length_digits c.args.bytes.now)
 
 pub returns : goal.returns
 returns c =
