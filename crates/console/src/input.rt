@@ -10,6 +10,7 @@ pub trait TakesLines {
 }
 
 // Takes bytes of the input, and hands on each line that ends in them.
+// Byte by byte: parts between newlines would need a loop within the loop to go into the buffer.
 fn take_bytes(
     bytes: &[u8],
     taker: &mut impl TakesLines,
@@ -27,19 +28,23 @@ fn take_bytes(
     Ok(())
 }
 
-// Takes the next bytes of the input, hands on each line that ends in them, writes out what is said of them, and says
-// whether there were any bytes.
-fn take_chunk(
+// Takes the input to its end, a chunk at a time. The end is where a read gives no byte.
+pub(crate) fn for_each_chunk<F: FnMut(&[u8]) -> io::Result<()>>(
     input: &mut impl Read,
-    taker: &mut impl TakesLines,
-    line: &mut LineBuffer,
-    out: &mut impl Write,
-) -> io::Result<bool> {
-    let mut chunk = [0u8; 16384];
-    let count = input.read(&mut chunk)?;
-    take_bytes(&chunk[0..count], taker, line, out)?;
-    out.flush()?;
-    Ok(count > 0)
+    mut take: F,
+) -> io::Result<()>
+    requires { F.IsAlwaysCallable take }
+{
+    let mut chunk = [0; 16384];
+    // How many chunks there are nobody knows: the count stands in for a loop without an end.
+    for _ in 0..u64::MAX {
+        let count = input.read(&mut chunk)?;
+        if count == 0 {
+            break;
+        }
+        take(&chunk[..count])?;
+    }
+    Ok(())
 }
 
 // Hands on every line of the input. What is said of the lines so far is written out before more input is waited for.
@@ -49,11 +54,10 @@ pub fn take_lines(
     out: &mut impl Write,
 ) -> io::Result<()> {
     let mut line = LineBuffer::new();
-    for _ in 0..u64::MAX {
-        if !take_chunk(input, taker, &mut line, out)? {
-            break;
-        }
-    }
+    for_each_chunk(input, |bytes| {
+        take_bytes(bytes, taker, &mut line, out)?;
+        out.flush()
+    })?;
     if line.is_started() {
         taker.take_line(line.line(), out)?;
     }

@@ -13,18 +13,8 @@ fn put_reply(reply: &[u8], out: &mut impl Write) -> io::Result<()> {
     out.write_all(b"\n")
 }
 
-// A session answers each line, with a page for that one reply.
-impl TakesLines for Session {
-    fn take_line(&mut self, line: &[u8], out: &mut impl Write) -> io::Result<()> {
-        let mut page = [0u8; 8198];
-        match self.reply(line, &mut page) {
-            Ok(count) => put_reply(&page[0..count], out),
-            Err(_) => unreachable(),
-        }
-    }
-}
-
-// A session with a page for its replies, which has room for every one.
+// A session that answers each line, with one page for its replies, which has room for every one: a page of fixed size, so
+// that no line wants memory.
 #[derive(Drop)]
 struct Replier {
     session: Session,
@@ -33,20 +23,16 @@ struct Replier {
 
 impl TakesLines for Replier {
     fn take_line(&mut self, line: &[u8], out: &mut impl Write) -> io::Result<()> {
-        match self.session.reply(line, &mut self.page) {
-            Ok(count) => put_reply(&self.page[0..count], out),
-            Err(_) => unreachable(),
-        }
+        let count = self.session.reply(line, &mut self.page).unwrap();
+        put_reply(&self.page[..count], out)
     }
 }
 
 // Writes the one reply to a yard that is refused.
 fn refuse_yard(refusal: Refusal, out: &mut impl Write) -> io::Result<()> {
-    let mut page = [0u8; 10];
-    match write_refusal(refusal, &mut page) {
-        Ok(count) => put_reply(&page[0..count], out),
-        Err(_) => unreachable(),
-    }
+    let mut page = [0; 10];
+    let count = write_refusal(refusal, &mut page).unwrap();
+    put_reply(&page[..count], out)
 }
 
 // Reads `yard.hex`, then answers standard input line by line on standard output.

@@ -1,13 +1,11 @@
 -- What an entry, a striking or a line does, as the session's answer says it.
-use Rattle.std.proofs.Common.{◌≡◌, ℕ, List, take, Ok, Err, Result, sym, refl, ap, ◌∙◌, subst}
+use Rattle.std.proofs.Common.{◌≡◌, ℕ, List, take, Result, sym, refl, ap, ◌∙◌, rules}
 use Rattle.judge.specs.FindingHistories.{entered, judged}
-use Rattle.judge.specs.Settling.{Pages}
 use Rattle.lines.specs.Reading.{reading}
 use Rattle.lines.specs.declared.entry.Entry.{Entry}
 use Rattle.lines.specs.declared.entry.Entry.TheVariants.{Judge}
 use Rattle.lines.specs.declared.entry.Input.TheVariants.{Sheet}
 use Rattle.lines.specs.declared.entry.Rule.{Rule}
-use Rattle.lines.specs.declared.refusal.LineRefusal.{LineRefusal}
 use Rattle.lines.proofs.Readings.{reading_kept}
 use Rattle.plan.specs.Plans.{Lanes}
 use Rattle.replies.specs.Answers.{Answer as Reply, line_of}
@@ -15,22 +13,17 @@ use Rattle.sheet.specs.Book.{Book}
 use Rattle.sheet.specs.Calls.{Call, Answer}
 use Rattle.sheet.specs.Histories.{Enters}
 use Rattle.session.specs.Answers.{entered_as}
-use Rattle.session.specs.Writing.{Continues, Stand, said_by}
-use Rattle.session.specs.Replies.{Asks, EntryReplied, JudgingReplied, LineReplied, ReadReplied, reply_to_answer, setting_of}
+use Rattle.session.specs.Writing.{Continues, said_by}
+use Rattle.session.specs.Replies.{Asks, EntryReplied, JudgingReplied, LineReplied, reply_to_answer, setting_of}
 use Rattle.session.specs.declared.answer.Answer.{Answer as Said}
+use Rattle.session.specs.declared.answer.Refusal.{Refusal}
 
 says_entered : (timetable page : List ℕ) (answer : Answer) → said_by timetable page (entered_as answer) ≡ reply_to_answer answer
-says_entered timetable page (Ok number) = refl
-says_entered timetable page (Err why) = refl
-
--- no page is written
-pub stands_entered : (p : Pages) (answer : Answer) (a : Said) → p.timetable_after ≡ p.timetable → p.ring_after ≡ p.ring → a ≡ entered_as answer → Stand p a
-stands_entered p (Ok number) a t r is = rw is (t, r)
-stands_entered p (Err why) a t r is = rw is (t, r)
+says_entered timetable page answer = search rules
 
 module _ (lanes : Lanes) (b b' : Book) (entry : Entry) (timetable page : List ℕ) where
   -- an entry that asks for a call
-  pub called : (call : Call) (answer : Answer) (a : Said) → Asks lanes entry (entered call answer) → Enters b (call, answer) b' → a ≡ entered_as answer → EntryReplied lanes b entry (said_by timetable page a) b'
+  pub called : (call : Call) (answer : Answer) (a : Result Said Refusal) → Asks lanes entry (entered call answer) → Enters b (call, answer) b' → a ≡ entered_as answer → EntryReplied lanes b entry (said_by timetable page a) b'
   called call answer a asked enters is = record {
     event = entered call answer;
     asked = asked;
@@ -47,13 +40,9 @@ module _ (lanes : Lanes) (b b' : Book) (entry : Entry) (timetable page : List �
     says = replied.says;
   }
 
--- a line is replied as what it reads as
-pub read_as : (lanes : Lanes) (b b' : Book) (line : List ℕ) (reply : Reply) (r : Result Entry LineRefusal) → r ≡ reading Sheet line → ReadReplied lanes b r reply b' → LineReplied lanes b line reply b'
-read_as lanes b b' line reply r is replied = subst (λ (q : Result Entry LineRefusal). ReadReplied lanes b q reply b') is replied
-
 -- lines of which the same is kept read the same
 same_reading : (whole line : List ℕ) → take 65 whole ≡ take 65 line → reading Sheet line ≡ reading Sheet whole
 same_reading whole line same = sym (reading_kept Sheet line) ∙ ap (reading Sheet) (sym same) ∙ reading_kept Sheet whole
 
 pub continues : (lanes : Lanes) (b b' : Book) (line : List ℕ) (reply : Reply) → LineReplied lanes b line reply b' → Continues lanes b line (line_of reply) b'
-continues lanes b b' line reply replied h whole same l = (b, l, (reply, subst (λ (q : Result Entry LineRefusal). ReadReplied lanes b q reply b') (same_reading whole line same) replied, refl))
+continues lanes b b' line reply replied h whole same l = (b, l, (reply, rw (same_reading whole line same) at replied, refl))

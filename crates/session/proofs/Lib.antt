@@ -1,4 +1,4 @@
 pub mod Found
 pub mod Entered
 pub mod Fits
-pub mod Fixed
+pub mod Rules

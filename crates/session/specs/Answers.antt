@@ -1,8 +1,8 @@
 -- What a session answers to a line.
-use Rattle.std.specs.Prelude.{◌≡◌, ℕ, ◌-◌, ◌<◌, ◌≤◌, cond, List, take, is_ok, Ok, Err, Result}
+use Rattle.std.specs.Prelude.{◌≡◌, ℕ, ◌-◌, ◌<◌, ◌≤◌, cond, List, is_ok, Ok, Err, Result}
 use Rattle.judge.specs.Judged.{Judged, judging_of}
 use Rattle.judge.specs.declared.refusal.JudgeRefusal.{JudgeRefusal}
-use Rattle.judge.specs.declared.refusal.JudgeRefusal.TheVariants.{PageTooShort, NotAtGoal, NoLane, Undecided, HeadOn, Ring as RingOf}
+use Rattle.judge.specs.Settling.{Pages, Within}
 use Rattle.lines.specs.declared.entry.Entry.{Entry}
 use Rattle.lines.specs.declared.entry.Entry.TheVariants.{Carrier, Stop, Precedence, Strike, Judge, Lane}
 use Rattle.lines.specs.declared.entry.Rule.{Rule}
@@ -11,88 +11,76 @@ use Rattle.lines.specs.declared.refusal.LineRefusal.{LineRefusal}
 use Rattle.lines.specs.declared.refusal.LineRefusal.TheVariants.{UnknownKind, BadRule}
 use Rattle.lines.specs.declared.refusal.WriteRefusal.{WriteRefusal}
 use Rattle.lines.specs.Pages.{written}
-use Rattle.replies.specs.Answers.{Answer as Reply, accepted, passed, ring, refused, line_of, writing}
+use Rattle.replies.specs.Answers.{Answer as Reply, line_of, writing}
 use Rattle.plan.specs.Plans.{Lanes, Gaps}
 use Rattle.sheet.specs.Book.{Book}
 use Rattle.sheet.specs.Calls.{Call, enter_carrier, enter_stop, enter_precedence, strike_precedence}
 use Rattle.sheet.specs.Histories.{Enters}
 use Rattle.sheet.specs.declared.refusal.EntryRefusal.{EntryRefusal}
-use Rattle.session.specs.Refusals.{number_of, told_by}
+use Rattle.session.specs.Writing.{said_by}
 use Rattle.session.specs.declared.answer.Answer.{Answer}
-use Rattle.session.specs.declared.answer.Answer.TheVariants.{Accepted, Passed, Ring, Refused}
-use Rattle.session.specs.declared.answer.Refusal.TheVariants.{Line, Entry as OfEntry, Judge as OfJudge}
+use Rattle.session.specs.declared.answer.Answer.TheVariants.{Accepted, Passed}
+use Rattle.session.specs.declared.answer.Refusal.{Refusal}
+use Rattle.session.specs.declared.answer.Refusal.TheVariants.{Line, Entry as OfEntry, Judge as OfJudge, Lay}
 
 -- as many numbers as are answered are on the pages, which have 1,024
-abbrev pub OnPages : Answer → Type 0
-OnPages (Accepted number) = Unit {0}
-OnPages (Passed stops) = stops ≤ 1024
-OnPages (Ring long) = long ≤ 1024
-OnPages (Refused refusal) = Unit {0}
+abbrev pub OnPages : Result Answer Refusal → Type 0
+OnPages (Ok (Accepted number)) = Unit {0}
+OnPages (Ok (Passed stops)) = stops ≤ 1024
+OnPages (Err (Line why)) = Unit {0}
+OnPages (Err (OfEntry why)) = Unit {0}
+OnPages (Err (OfJudge why)) = Within 1024 1024 (Err why)
+OnPages (Err (Lay why)) = Unit {0}
 
 -- what comes of an entry or a striking
-abbrev pub entered_as : Result ℕ EntryRefusal → Answer
-entered_as (Ok number) = Accepted number
-entered_as (Err why) = Refused (OfEntry why)
+abbrev pub entered_as : Result ℕ EntryRefusal → Result Answer Refusal
+entered_as (Ok number) = Ok (Accepted number)
+entered_as (Err why) = Err (OfEntry why)
 
 -- what comes of a judging
-abbrev pub judged_as : Result ℕ JudgeRefusal → Answer
-judged_as (Ok stops) = Passed stops
-judged_as (Err PageTooShort) = Refused (OfJudge PageTooShort)
-judged_as (Err (NotAtGoal c)) = Refused (OfJudge (NotAtGoal c))
-judged_as (Err (NoLane t)) = Refused (OfJudge (NoLane t))
-judged_as (Err (Undecided s t)) = Refused (OfJudge (Undecided s t))
-judged_as (Err (HeadOn s t)) = Refused (OfJudge (HeadOn s t))
-judged_as (Err (RingOf k)) = Ring k
-
--- the pages of a session before and after a line
-pub record Change : Type 0 where
-  pub timetable : List ℕ
-  pub ring : List ℕ
-  pub timetable_after : List ℕ
-  pub ring_after : List ℕ
+abbrev pub judged_as : Result ℕ JudgeRefusal → Result Answer Refusal
+judged_as (Ok stops) = Ok (Passed stops)
+judged_as (Err why) = Err (OfJudge why)
 
 -- the answer is that of a judging of the book in the yard under the rule, with these pages
-pub record Judges (lanes : Lanes) (gap : Gaps) (largest : ℕ) (b : Book) (p : Change) (a : Answer) : Type 0 where
+pub record Judges (lanes : Lanes) (gap : Gaps) (largest : ℕ) (b : Book) (p : Pages) (a : Result Answer Refusal) : Type 0 where
   pub outcome : Result ℕ JudgeRefusal
   pub judged : Judged (judging_of lanes gap largest p.timetable p.ring p.timetable_after p.ring_after outcome) b
   pub is : a ≡ judged_as outcome
 
 -- the answer is that of a call on the book, which becomes b'
-pub record Calls (b : Book) (call : Call) (b' : Book) (a : Answer) : Type 0 where
+pub record Calls (b : Book) (call : Call) (b' : Book) (a : Result Answer Refusal) : Type 0 where
   pub outcome : Result ℕ EntryRefusal
   pub enters : Enters b (call, outcome) b'
   pub is : a ≡ entered_as outcome
 
 -- what the reply to an answer says
-abbrev pub said : Change → Answer → Reply
-said p (Accepted number) = accepted number
-said p (Passed stops) = passed (take stops p.timetable_after)
-said p (Ring long) = ring (take long p.ring_after)
-said p (Refused refusal) = refused (number_of refusal) (told_by refusal).0 (told_by refusal).1
+abbrev pub said : Pages → Result Answer Refusal → Reply
+said p a = said_by p.timetable_after p.ring_after a
 
 -- what an entry is answered, and the book that it leaves
-module _ (lanes : Lanes) (b b' : Book) (p : Change) where
-  abbrev pub Ruled : Rule → Answer → Type 0
+module _ (lanes : Lanes) (b b' : Book) (p : Pages) where
+  abbrev pub Ruled : Rule → Result Answer Refusal → Type 0
   Ruled FullLane a = Judges lanes (λ _ _ time. time) 36000 b p a
   Ruled LaneLessOne a = Judges lanes (λ _ _ time. time - 1) 35999 b p a
-  Ruled (FixedGap gap) a = (gap ≤ 36000 → Judges lanes (λ _ _ _. gap) 36000 b p a) × (36000 < gap → a ≡ Refused (Line BadRule))
+  Ruled (FixedGap gap) a = (gap ≤ 36000 → Judges lanes (λ _ _ _. gap) 36000 b p a) × (36000 < gap → a ≡ Err (Line BadRule))
 
-  abbrev pub Answered : Entry → Answer → Type 0
+  abbrev pub Answered : Entry → Result Answer Refusal → Type 0
   Answered (Carrier start goal) a = Calls b (enter_carrier start goal) b' a
   Answered (Stop carrier place) a = Calls b (enter_stop carrier place) b' a
   Answered (Precedence first second place) a = Calls b (enter_precedence first second place) b' a
   Answered (Strike first second place) a = Calls b (strike_precedence first second place) b' a
   Answered (Judge rule) a = Ruled rule a × (b' ≡ b)
-  Answered (Lane from to time) a = (a ≡ Refused (Line UnknownKind)) × (b' ≡ b)
+  Answered (Lane from to time) a = (a ≡ Err (Line UnknownKind)) × (b' ≡ b)
 
   -- what a line is answered, by what it reads as; a line that cannot be read leaves the book as it is
-  abbrev pub LineAnswered : Result Entry LineRefusal → Answer → Type 0
+  abbrev pub LineAnswered : Result Entry LineRefusal → Result Answer Refusal → Type 0
   LineAnswered (Ok entry) a = Answered entry a
-  LineAnswered (Err why) a = (a ≡ Refused (Line why)) × (b' ≡ b)
+  LineAnswered (Err why) a = (a ≡ Err (Line why)) × (b' ≡ b)
 
   -- the reply to a line stands at the front of the page, or the page is too short for it and stands
   pub record Replied (line : Result Entry LineRefusal) (page page' : List ℕ) (r : Result ℕ WriteRefusal) : Type 0 where
-    pub answer : Answer
+    pub answer : Result Answer Refusal
     pub answered : LineAnswered line answer
     pub value : r ≡ writing page 0 (said p answer)
     pub after : page' ≡ cond (is_ok r) (written page 0 (line_of (said p answer))) page

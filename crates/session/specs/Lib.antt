@@ -1,4 +1,5 @@
 pub mod Refusals
+pub mod Rules
 pub mod Answers
 pub mod Replies
 pub mod Writing

@@ -1,4 +1,5 @@
 -- What a session means.
+use Rattle.std.specs.Prelude.{Result}
 use Rattle.judge.specs.Settling.{Pages}
 use Rattle.lane_yard.specs.Meaning.{lanes_of}
 use Rattle.plan.specs.Plans.{Lanes}
@@ -7,6 +8,7 @@ use Rattle.sheet.specs.Book.{Book}
 use Rattle.sheet.specs.Sheets.{sheet_book}
 use Rattle.session.specs.Writing.{said_by}
 use Rattle.session.specs.declared.answer.Answer.{Answer}
+use Rattle.session.specs.declared.answer.Refusal.{Refusal}
 use Rattle.session.specs.declared.sessions.Session.{Session}
 
 -- the lanes of its yard
@@ -18,7 +20,7 @@ abbrev pub book_in : Session → Book
 book_in s = sheet_book s.sheet
 
 -- what an answer says, with its pages
-abbrev pub said_in : Session → Answer → Reply
+abbrev pub said_in : Session → Result Answer Refusal → Reply
 said_in s a = said_by s.timetable s.ring a
 
 -- its pages before and after

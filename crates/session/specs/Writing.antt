@@ -1,6 +1,7 @@
 -- What a session's answer says with the session's pages, and what is written of it on a page.
-use Rattle.std.specs.Prelude.{◌≡◌, ℕ, cond, List, take, is_ok, Result}
+use Rattle.std.specs.Prelude.{◌≡◌, ℕ, cond, List, take, is_ok, Ok, Err, Result}
 use Rattle.judge.specs.Settling.{Pages}
+use Rattle.judge.specs.declared.refusal.JudgeRefusal.TheVariants.{Ring as RingOf}
 use Rattle.lines.specs.Pages.{written}
 use Rattle.lines.specs.declared.refusal.WriteRefusal.{WriteRefusal}
 use Rattle.replies.specs.Answers.{Answer as Reply, accepted, passed, ring, refused, line_of, writing}
@@ -10,21 +11,22 @@ use Rattle.sheet.specs.Histories.{History, ◌▹◌}
 use Rattle.session.specs.Refusals.{number_of, told_by}
 use Rattle.session.specs.Replies.{Exchange, Lawful, LineReplied}
 use Rattle.session.specs.declared.answer.Answer.{Answer}
-use Rattle.session.specs.declared.answer.Answer.TheVariants.{Accepted, Passed, Ring, Refused}
+use Rattle.session.specs.declared.answer.Answer.TheVariants.{Accepted, Passed}
+use Rattle.session.specs.declared.answer.Refusal.{Refusal}
+use Rattle.session.specs.declared.answer.Refusal.TheVariants.{Judge}
 
 -- what an answer says, with the session's timetable and its ring page
-abbrev pub said_by : List ℕ → List ℕ → Answer → Reply
-said_by timetable page (Accepted number) = accepted number
-said_by timetable page (Passed stops) = passed (take stops timetable)
-said_by timetable page (Ring long) = ring (take long page)
-said_by timetable page (Refused refusal) = refused (number_of refusal) (told_by refusal).0 (told_by refusal).1
+abbrev pub said_by : List ℕ → List ℕ → Result Answer Refusal → Reply
+said_by timetable page (Ok (Accepted number)) = accepted number
+said_by timetable page (Ok (Passed stops)) = passed (take stops timetable)
+said_by timetable page (Err (Judge (RingOf long))) = ring (take long page)
+said_by timetable page (Err refusal) = refused (number_of refusal) (told_by refusal).0 (told_by refusal).1
 
 -- the timetable stands unless the sheet passes, and the ring page unless there is a ring
-abbrev pub Stand : Pages → Answer → Type 0
-Stand p (Accepted number) = (p.timetable_after ≡ p.timetable) × (p.ring_after ≡ p.ring)
-Stand p (Passed stops) = p.ring_after ≡ p.ring
-Stand p (Ring long) = p.timetable_after ≡ p.timetable
-Stand p (Refused refusal) = (p.timetable_after ≡ p.timetable) × (p.ring_after ≡ p.ring)
+abbrev pub Stand : Pages → Result Answer Refusal → Type 0
+Stand p (Ok (Passed stops)) = p.ring_after ≡ p.ring
+Stand p (Err (Judge (RingOf long))) = p.timetable_after ≡ p.timetable
+Stand p a = (p.timetable_after ≡ p.timetable) × (p.ring_after ≡ p.ring)
 
 -- a reply stands at the front of the page, or the page is too short for it and stands
 pub record Written (page page' : List ℕ) (r : Result ℕ WriteRefusal) (reply : Reply) : Type 0 where

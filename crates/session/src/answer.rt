@@ -1,20 +1,27 @@
 // What a line is answered.
 ghost use Rattle.std.specs.Prelude.{◌≡◌};
-ghost use Rattle.session.specs.Refusals.{number_of, told_by};
+ghost use Rattle.lines.specs.declared.refusal.LineRefusal.TheVariants.{BadRule};
+ghost use Rattle.replies.specs.Answers.{refused};
+ghost use Rattle.replies.specs.Replies.{answer_of};
+ghost use Rattle.session.specs.Refusals.{file_refused, number_of, told_by};
+ghost use Rattle.session.specs.declared.answer.Refusal.TheVariants.{Line, Entry, Judge, Lay};
 
 use judge::refusal::JudgeRefusal;
 use lane_yard::refusal::LayRefusal;
 use lines::refusal::LineRefusal;
+use replies::reply::Reply;
 use sheet::refusal::EntryRefusal;
+use yard::refusal::GapRefusal;
+use yard_file::refusal::FileRefusal;
 
 // Why a line, or the file of the yard, is refused.
-#[derive(Clone, Copy)]
+#[derive(Clone, Copy, PartialEq, Eq, Debug)]
 pub enum Refusal {
     // The line cannot be read.
     Line { why: LineRefusal },
-    // The sheet turns the entry or the striking away.
+    // The sheet refuses the entry or the striking.
     Entry { why: EntryRefusal },
-    // The sheet does not pass.
+    // The sheet does not pass; for a ring, the session's ring page has its stops.
     Judge { why: JudgeRefusal },
     // The lanes cannot be laid.
     Lay { why: LayRefusal },
@@ -46,14 +53,78 @@ impl Refusal {
     }
 }
 
-// The answer to a line of a sheet.
-#[derive(Clone, Copy)]
+impl From<LineRefusal> for Refusal {
+    ghost from_gives = { λ why refusal. refusal ≡ Line why };
+
+    fn from(why: LineRefusal) -> Refusal {
+        Refusal::Line { why }
+    }
+}
+
+impl From<EntryRefusal> for Refusal {
+    ghost from_gives = { λ why refusal. refusal ≡ Entry why };
+
+    fn from(why: EntryRefusal) -> Refusal {
+        Refusal::Entry { why }
+    }
+}
+
+impl From<JudgeRefusal> for Refusal {
+    ghost from_gives = { λ why refusal. refusal ≡ Judge why };
+
+    fn from(why: JudgeRefusal) -> Refusal {
+        Refusal::Judge { why }
+    }
+}
+
+impl From<LayRefusal> for Refusal {
+    ghost from_gives = { λ why refusal. refusal ≡ Lay why };
+
+    fn from(why: LayRefusal) -> Refusal {
+        Refusal::Lay { why }
+    }
+}
+
+// A file of a yard is refused as a line or a list of lanes is.
+impl From<FileRefusal> for Refusal {
+    ghost from_gives = { λ why refusal. refusal ≡ file_refused why };
+
+    fn from(why: FileRefusal) -> Refusal {
+        match why {
+            FileRefusal::Line { why } => Refusal::Line { why },
+            FileRefusal::Lay { why } => Refusal::Lay { why },
+        }
+    }
+}
+
+// A gap that is too long is no rule that a line can name.
+impl From<GapRefusal> for Refusal {
+    ghost from_gives = { λ _ refusal. refusal ≡ Line BadRule };
+
+    fn from(_: GapRefusal) -> Refusal {
+        LineRefusal::BadRule.into()
+    }
+}
+
+// The reply of a refusal by its number and what it tells. For a ring a session replies with the ring itself.
+impl From<Refusal> for Reply<'_> {
+    ghost from_gives = { λ refusal reply. answer_of reply ≡ refused (number_of refusal) (told_by refusal).0 (told_by refusal).1 };
+
+    fn from(refusal: Refusal) -> Self {
+        let (first, second) = refusal.told();
+        Reply::Refused {
+            number: refusal.number(),
+            first,
+            second,
+        }
+    }
+}
+
+// What comes of a line of a sheet that is not refused.
+#[derive(Clone, Copy, PartialEq, Eq, Debug)]
 pub enum Answer {
     // The entry or the striking is accepted, with this number.
     Accepted { number: u16 },
     // The sheet passes, and the session's timetable has the arrivals at its stops.
     Passed { stops: u16 },
-    // The sheet has a ring, and the session's ring page has its stops.
-    Ring { length: u16 },
-    Refused { refusal: Refusal },
 }

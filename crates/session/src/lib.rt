@@ -3,4 +3,3 @@
 
 pub mod answer;
 pub mod sessions;
-pub mod yard_file;

@@ -1,20 +1,22 @@
 // The session and its calls.
-ghost use Rattle.std.specs.Prelude.{◌≡◌, ◌≤◌, true, if◌then◌else◌, length, take, is_ok, IfOk};
-ghost use Rattle.judge.specs.Settling.{Within};
-ghost use Rattle.lane_yard.specs.Meaning.{lanes_of};
+ghost use Rattle.std.specs.Prelude.{◌≡◌, ◌<◌, ◌≤◌, IsTrue, IsOk, if◌then◌else◌, length, take, is_ok, IfOk, IfErr};
 ghost use Rattle.lines.specs.Entries.{Lawful as LawfulEntry, gap_of, has, kind_of};
 ghost use Rattle.lines.specs.Pages.{written};
 ghost use Rattle.lines.specs.Reading.{reading};
 ghost use Rattle.lines.specs.declared.entry.Input.TheVariants.{Sheet as SheetInput};
 ghost use Rattle.replies.specs.Answers.{line_of, refused, writing};
+ghost use Rattle.replies.specs.Replies.{answer_of};
 ghost use Rattle.sheet.specs.Book.{opened};
 ghost use Rattle.sheet.specs.Histories.History.{opening};
-ghost use Rattle.sheet.specs.Sheets.{sheet_book};
-ghost use Rattle.session.specs.Answers.{Answered, Judges, LineAnswered, OnPages, Replied, Ruled, entered_as, judged_as};
+ghost use Rattle.session.specs.Answers.{Answered, LineAnswered, OnPages, Replied, Ruled, entered_as};
 ghost use Rattle.session.specs.Refusals.{number_of, told_by};
 ghost use Rattle.session.specs.Replies.{EntryReplied, JudgingReplied, Lawful, LineReplied, setting_of};
+ghost use Rattle.session.specs.Rules.{gaps_under};
 ghost use Rattle.session.specs.Sessions.{book_in, lanes_in, pages_over, said_in};
 ghost use Rattle.session.specs.Writing.{Continues, ReplyWritten, Stand};
+ghost use Rattle.session.specs.declared.answer.Refusal.TheVariants.{Line as LineRefused};
+ghost use Rattle.lines.specs.declared.refusal.LineRefusal.TheVariants.{BadRule};
+ghost use Rattle.yard.specs.Rules.{gaps_of};
 
 use crate::answer::{Answer, Refusal};
 use judge::judging::judge;
@@ -23,12 +25,11 @@ use lane_yard::yards::LaneYard;
 use lines::entry::{Entry, Input, Rule};
 use lines::read::read_entry;
 use lines::refusal::{LineRefusal, WriteRefusal};
-use replies::reply::{write_accepted, write_passed, write_refused, write_ring};
+use replies::reply::Reply;
 use sheet::refusal::EntryRefusal;
 use sheet::sheets::Sheet;
 use std::alloc::{AllocError, Global};
-use yard::FollowingRule;
-use yard::rules::{FixedGap, FullLane, LaneLessOne};
+use yard::rules::{AnyRule, FixedGap};
 
 // A yard and a sheet, with pages for judging that are long enough for every sheet.
 #[derive(Drop)]
@@ -39,38 +40,32 @@ pub struct Session {
     ring: [u16; 1024],
 }
 
-// What comes of an entry or a striking.
-fn entered(outcome: Result<u16, EntryRefusal>) -> Answer
-    ensures value { result ≡ entered_as outcome }
-    ensures within { OnPages result }
+// The rule that a line names. Neither type is this crate's own, so it can be no `From`.
+fn rule_of(rule: Rule) -> Result<AnyRule, Refusal>
+    ensures ok { IfOk result (λ any. (gap_of rule ≤ 36000) × (gaps_of any ≡ gaps_under rule)) }
+    ensures err { IfErr result (λ e. (36000 < gap_of rule) × (e ≡ LineRefused BadRule)) }
 {
-    match outcome {
-        Ok(number) => Answer::Accepted { number },
-        Err(why) => Answer::Refused {
-            refusal: Refusal::Entry { why },
-        },
+    match rule {
+        Rule::FullLane => Ok(AnyRule::FullLane),
+        Rule::LaneLessOne => Ok(AnyRule::LaneLessOne),
+        Rule::FixedGap { gap } => Ok(AnyRule::Fixed {
+            gap: FixedGap::try_from(gap)?,
+        }),
     }
 }
 
-// What comes of a judging.
-fn judged(outcome: Result<u16, JudgeRefusal>) -> Answer
-    requires { Within 1024 1024 outcome }
-    ensures value { result ≡ judged_as outcome }
+// What comes of an entry or a striking.
+fn entered(outcome: Result<u16, EntryRefusal>) -> Result<Answer, Refusal>
+    ensures value { result ≡ entered_as outcome }
     ensures within { OnPages result }
 {
-    match outcome {
-        Ok(stops) => Answer::Passed { stops },
-        Err(JudgeRefusal::Ring { length }) => Answer::Ring { length },
-        Err(why) => Answer::Refused {
-            refusal: Refusal::Judge { why },
-        },
-    }
+    Ok(Answer::Accepted { number: outcome? })
 }
 
 impl Session {
     // Opens a sheet beside the yard.
     pub fn open(heap: Global, yard: LaneYard) -> Result<Session, AllocError>
-        ensures opens { IfOk result (λ s. (sheet_book s.sheet ≡ opened) × (s.yard ≡ yard)) }
+        ensures opens { IfOk result (λ s. (book_in s ≡ opened) × (s.yard ≡ yard)) }
         ensures begins { IfOk result (λ s. Lawful (lanes_in s) opening (book_in s)) }
     {
         let sheet = Sheet::open(heap)?;
@@ -110,52 +105,30 @@ impl Session {
         &self.ring
     }
 
-    // Judges the sheet in the yard under the rule.
-    fn judge_by<R: FollowingRule>(&mut self, rule: &R) -> Answer
-        ensures judges { Judges (lanes_of self.old.yard) (R.FollowingRule.gaps rule.now) R.FollowingRule.largest (sheet_book self.old.sheet) (record { timetable = self.old.timetable; ring = self.old.ring; timetable_after = self.new.timetable; ring_after = self.new.ring }) result }
-        ensures replied { JudgingReplied (record { lanes = lanes_in self.old; gap = R.FollowingRule.gaps rule.now; largest = R.FollowingRule.largest }) (book_in self.old) (said_in self.new result) }
-        ensures same { (self.new.sheet ≡ self.old.sheet) × (self.new.yard ≡ self.old.yard) }
-        ensures stand { Stand (pages_over self.old self.new) result }
-        ensures within { OnPages result }
-    {
-        judged(judge(
-            &self.sheet,
-            &self.yard,
-            rule,
-            &mut self.timetable,
-            &mut self.ring,
-        ))
-    }
-
-    // Judges the sheet in the yard under the rule of a line.
-    fn judge_under(&mut self, rule: Rule) -> Answer
-        ensures ruled { Ruled (lanes_of self.old.yard) (sheet_book self.old.sheet) (sheet_book self.new.sheet) (record { timetable = self.old.timetable; ring = self.old.ring; timetable_after = self.new.timetable; ring_after = self.new.ring }) rule result }
+    // Judges the sheet in the yard under the rule that a line names.
+    // Here and below `same`, `stand` and `within` are clauses of their own: a caller asks for each alone.
+    fn judge_under(&mut self, rule: Rule) -> Result<Answer, Refusal>
+        ensures ruled { Ruled (lanes_in self.old) (book_in self.old) (book_in self.new) (pages_over self.old self.new) rule result }
         ensures replied { gap_of rule ≤ 36000 → JudgingReplied (setting_of (lanes_in self.old) rule) (book_in self.old) (said_in self.new result) }
         ensures same { (self.new.sheet ≡ self.old.sheet) × (self.new.yard ≡ self.old.yard) }
         ensures stand { Stand (pages_over self.old self.new) result }
         ensures within { OnPages result }
     {
-        match rule {
-            Rule::FullLane => self.judge_by(&FullLane),
-            Rule::LaneLessOne => self.judge_by(&LaneLessOne),
-            Rule::FixedGap { gap } => {
-                let mut fixed = FixedGap::new();
-                match fixed.set(gap) {
-                    Ok(()) => self.judge_by(&fixed),
-                    Err(_) => Answer::Refused {
-                        refusal: Refusal::Line {
-                            why: LineRefusal::BadRule,
-                        },
-                    },
-                }
-            }
-        }
+        let rule = rule_of(rule)?;
+        let stops = judge(
+            &self.sheet,
+            &self.yard,
+            &rule,
+            &mut self.timetable,
+            &mut self.ring,
+        )?;
+        Ok(Answer::Passed { stops })
     }
 
-    // Does what the entry says.
-    fn take(&mut self, entry: Entry) -> Answer
-        ensures answers { Answered (lanes_of self.old.yard) (sheet_book self.old.sheet) (sheet_book self.new.sheet) (record { timetable = self.old.timetable; ring = self.old.ring; timetable_after = self.new.timetable; ring_after = self.new.ring }) entry result }
-        ensures replied { LawfulEntry entry → has SheetInput (kind_of entry) ≡ true → EntryReplied (lanes_in self.old) (book_in self.old) entry (said_in self.new result) (book_in self.new) }
+    // Does what the entry says. The kinds carry different data, so each arm makes its own call.
+    fn take(&mut self, entry: Entry) -> Result<Answer, Refusal>
+        ensures answers { Answered (lanes_in self.old) (book_in self.old) (book_in self.new) (pages_over self.old self.new) entry result }
+        ensures replied { LawfulEntry entry → IsTrue (has SheetInput (kind_of entry)) → EntryReplied (lanes_in self.old) (book_in self.old) entry (said_in self.new result) (book_in self.new) }
         ensures same { self.new.yard ≡ self.old.yard }
         ensures stand { Stand (pages_over self.old self.new) result }
         ensures within { OnPages result }
@@ -174,49 +147,56 @@ impl Session {
                 place,
             } => entered(self.sheet.strike_precedence(first, second, place)),
             Entry::Judge { rule } => self.judge_under(rule),
-            Entry::Lane { .. } => Answer::Refused {
-                refusal: Refusal::Line {
-                    why: LineRefusal::UnknownKind,
-                },
-            },
+            Entry::Lane { .. } => Err(LineRefusal::UnknownKind.into()),
         }
     }
 
     // Answers a line of the sheet's input.
-    pub fn answer(&mut self, line: &[u8]) -> Answer
-        ensures answers { LineAnswered (lanes_of self.old.yard) (sheet_book self.old.sheet) (sheet_book self.new.sheet) (record { timetable = self.old.timetable; ring = self.old.ring; timetable_after = self.new.timetable; ring_after = self.new.ring }) (reading SheetInput line.now) result }
+    pub fn answer(&mut self, line: &[u8]) -> Result<Answer, Refusal>
+        ensures answers { LineAnswered (lanes_in self.old) (book_in self.old) (book_in self.new) (pages_over self.old self.new) (reading SheetInput line.now) result }
         ensures replied { LineReplied (lanes_in self.old) (book_in self.old) line.now (said_in self.new result) (book_in self.new) }
         ensures goes_on { Continues (lanes_in self.old) (book_in self.old) line.now (line_of (said_in self.new result)) (book_in self.new) }
         ensures same { self.new.yard ≡ self.old.yard }
         ensures stand { Stand (pages_over self.old self.new) result }
         ensures within { OnPages result }
     {
-        match read_entry(line, Input::Sheet) {
-            Ok(entry) => self.take(entry),
-            Err(why) => Answer::Refused {
-                refusal: Refusal::Line { why },
+        let entry = read_entry(line, Input::Sheet)?;
+        self.take(entry)
+    }
+
+    // The reply of an answer, with the session's pages.
+    fn reply_to(&self, answer: Result<Answer, Refusal>) -> Reply<'_>
+        requires { OnPages answer }
+        ensures { answer_of result ≡ said_in self.now answer }
+    {
+        match answer {
+            Ok(Answer::Accepted { number }) => Reply::Accepted { number },
+            Ok(Answer::Passed { stops }) => Reply::Passed {
+                arrivals: &self.timetable[..usize::from(stops)],
             },
+            Err(
+                Refusal::Judge {
+                    why: JudgeRefusal::Ring { length },
+                },
+            ) => Reply::Ring {
+                stops: &self.ring[..usize::from(length)],
+            },
+            Err(refusal) => refusal.into(),
         }
     }
 
     // Answers a line of the sheet's input with its reply, at the front of the page, and says how long the reply is.
     // A page of 8,198 bytes has room for every reply; a line whose reply finds no room has been acted on all the same.
     pub fn reply(&mut self, line: &[u8], page: &mut [u8]) -> Result<usize, WriteRefusal>
-        ensures replies { Replied (lanes_of self.old.yard) (sheet_book self.old.sheet) (sheet_book self.new.sheet) (record { timetable = self.old.timetable; ring = self.old.ring; timetable_after = self.new.timetable; ring_after = self.new.ring }) (reading SheetInput line.now) page.old page.new result }
+        ensures replies { Replied (lanes_in self.old) (book_in self.old) (book_in self.new) (pages_over self.old self.new) (reading SheetInput line.now) page.old page.new result }
         ensures written { ReplyWritten (lanes_in self.old) (book_in self.old) (book_in self.new) line.now page.old page.new result }
         ensures goes_on { IfOk result (λ n. Continues (lanes_in self.old) (book_in self.old) line.now (take n page.new) (book_in self.new)) }
-        ensures room { 8198 ≤ length page.old → is_ok result ≡ true }
+        ensures room { 8198 ≤ length page.old → IsOk result }
         ensures within { IfOk result (λ n. n ≤ length page.old) }
         ensures same { self.new.yard ≡ self.old.yard }
     {
-        match self.answer(line) {
-            Answer::Accepted { number } => write_accepted(number, page, 0),
-            Answer::Passed { stops } => {
-                write_passed(&self.timetable[0..stops as usize], page, 0)
-            }
-            Answer::Ring { length } => { write_ring(&self.ring[0..length as usize], page, 0) }
-            Answer::Refused { refusal } => write_refusal(refusal, page),
-        }
+        let answer = self.answer(line);
+        self.reply_to(answer).write(page, 0)
     }
 }
 
@@ -224,9 +204,8 @@ impl Session {
 pub fn write_refusal(refusal: Refusal, page: &mut [u8]) -> Result<usize, WriteRefusal>
     ensures value { result ≡ writing page.old 0 (refused (number_of refusal) (told_by refusal).0 (told_by refusal).1) }
     ensures after { page.new ≡ (if is_ok result then written page.old 0 (line_of (refused (number_of refusal) (told_by refusal).0 (told_by refusal).1)) else page.old) }
-    ensures room { 10 ≤ length page.old → is_ok result ≡ true }
+    ensures room { 10 ≤ length page.old → IsOk result }
     ensures within { IfOk result (λ n. n ≤ length page.old) }
 {
-    let (first, second) = refusal.told();
-    write_refused(refusal.number(), first, second, page, 0)
+    Reply::from(refusal).write(page, 0)
 }

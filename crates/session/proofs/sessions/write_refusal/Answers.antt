@@ -1,20 +1,6 @@
-use Rattle.std.proofs.Common.{◌≡◌, ◌≤◌, length, arith, rules}
-use Rattle.std.proofs.lemmas.Result.{IfOk-weaker}
-use Rattle.replies.specs.Answers.{refused, writing}
-use Rattle.replies.proofs.Room.{reply_room, reply_size, reply_within}
-use Rattle.session.specs.Refusals.{number_of, told_by}
+use Rattle.std.proofs.Common.{rules}
+use Rattle.replies.proofs.Room.{reply_room, reply_size}
 use Rattle.session.proofs.sessions.write_refusal.Goals as goal
 
-pub returns : goal.returns
-returns c =
-    let page = c.args.page.now in
-    let why = c.args.refusal in
-    let reply = refused (number_of why) (told_by why).0 (told_by why).1 in
-    let value : c.write_refused.result ≡ writing page 0 reply = search rules in
-    let short = reply_size reply in
-    record {
-      value = value;
-      after = search rules;
-      room = λ h. reply_room page 0 c.write_refused.result reply (omega arith) value (omega arith);
-      within = IfOk-weaker c.write_refused.result _ (λ n. n ≤ length page) (λ n h. omega arith) (reply_within page 0 c.write_refused.result reply (omega arith) value);
-    }
+pub returns-clause-room : goal.returns-clause-room
+returns-clause-room c = λ h. search (rules, reply_room, reply_size)

@@ -1,6 +1,5 @@
-use Rattle.std.proofs.Common.{ℕ, List, length, sym, subst}
 use Rattle.std.proofs.lemmas.Bool.{ltb-true, ltb-false}
-use Rattle.yard_file.specs.Files.{Ended}
+use Rattle.std.proofs.Common.{length, sym}
 use Rattle.yard_file.proofs.Noted.{all_lines, all_lines_more}
 use Rattle.yard_file.proofs.files.YardFile.end.Goals as goal
 
@@ -8,9 +7,9 @@ pub returns-then-is_started : goal.returns-then-is_started
 returns-then-is_started c bytes r =
     let started = c.if-is_started.ensures.whole r.begun r.line in
     let more = c.end_line.ensures r.ended r.begun r.kept r.line in
-    subst (λ (lines : List (List ℕ)). Ended c.end_line.new.self lines) (all_lines_more bytes r.ended r.begun r.split (ltb-true 0 (length r.begun) (sym started))) more.0
+    rw (← all_lines_more bytes r.ended r.begun r.split (ltb-true 0 (length r.begun) (sym started))) more.0
 
 pub returns-else-is_started : goal.returns-else-is_started
 returns-else-is_started c bytes r =
     let started = c.if-is_started.ensures.whole r.begun r.line in
-    subst (λ (lines : List (List ℕ)). Ended c.args.self.now lines) (all_lines bytes r.ended r.begun r.split (ltb-false 0 (length r.begun) (sym started))) r.kept
+    rw (← all_lines bytes r.ended r.begun r.split (ltb-false 0 (length r.begun) (sym started))) r.kept

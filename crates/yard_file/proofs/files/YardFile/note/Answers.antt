@@ -1,15 +1,12 @@
-use Rattle.std.proofs.Common.{vec_items, ap, ◌∙◌, arith}
-use Rattle.yard_file.proofs.Noted.{kept_none, refusal_kept}
+use Rattle.std.proofs.Common.{◌∙◌, rules}
+use Rattle.yard_file.proofs.Noted.{kept_none, kept_pushed, none_said}
 use Rattle.yard_file.proofs.files.YardFile.note.Goals as goal
 
-pub returns-in-Ok : goal.returns-in-Ok
-returns-in-Ok c =
-    let own = c.args.self.now in
-    rw c.in-Ok.is (record { lanes = c.take.ensures.lanes; refusal = c.take.ensures.others.0 ∙ refusal_kept own.refusal c.in-Ok.entry; line = c.take.ensures.others.1 })
+pub returns-in-Ok-Lane-clause-lanes : goal.returns-in-Ok-Lane-clause-lanes
+returns-in-Ok-Lane-clause-lanes c lanes is =
+    let entry = rw c.in-Ok-Lane.is at c.in-Ok-Lane.field-0-is in
+    rw c.in-Ok-Lane.is (rw entry (kept_pushed lanes c.args.self.now.lanes c.push.new.self _ c.push.ensures.kept is))
 
-pub returns-in-Err : goal.returns-in-Err
-returns-in-Err c =
-    let own = c.args.self.now in
-    let long = own.lanes.ok.0 in
-    let few = own.few in
-    rw c.in-Err.is (record { lanes = ap vec_items c.refuse.ensures.others.0 ∙ kept_none (vec_items own.lanes) (omega arith); refusal = c.refuse.ensures.first; line = c.refuse.ensures.others.1 })
+pub returns-in-Ok-clause-lanes : goal.returns-in-Ok-clause-lanes
+returns-in-Ok-clause-lanes c lanes is =
+    rw (c.in-Ok.is, none_said c.in-Ok.field-0 (λ from to time e. search rules)) (is ∙ kept_none lanes)
