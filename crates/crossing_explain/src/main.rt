@@ -1,4 +1,4 @@
-// yardexplain, run on the example of the crossing.
+// yardexplain, run on the example of the crossing: a crate of its own, as the gate runs a program on the input beside it.
 #![tactic(auto)]
 
 use std::io;

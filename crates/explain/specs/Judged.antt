@@ -7,8 +7,9 @@ use Rattle.sheet.specs.Records.{no_carrier, no_stop}
 use Rattle.judge.specs.declared.refusal.JudgeRefusal.{JudgeRefusal}
 use Rattle.judge.specs.declared.refusal.JudgeRefusal.TheVariants as refusal
 use Rattle.explain.specs.Facts.{GoesTo, Orders, Visits}
+use Rattle.explain.specs.Lists.{Lists}
 use Rattle.explain.specs.declared.judge_cause.JudgeCause.{JudgeCause}
-use Rattle.explain.specs.declared.judge_cause.JudgeCause.TheVariants.{NotAtGoal, NoLane, Undecided, HeadOn}
+use Rattle.explain.specs.declared.judge_cause.JudgeCause.TheVariants.{NotAtGoal, NoLane, Undecided, HeadOn, Ring}
 
 -- the carrier's latest stop is at the place, which is not its goal
 pub record ShortOfGoal (carriers : List Carrier) (carrier stop place goal : ℕ) : Type 0 where
@@ -42,9 +43,10 @@ pub record Opposed (stops : List Stop) (precedences : List Precedence) (carrier 
   pub first : (k : ℕ) × Orders precedences carrier other place k
   pub other_first : (k : ℕ) × Orders precedences other carrier place' k
 
-module _ (lanes : ℕ → ℕ → Option ℕ) (carriers : List Carrier) (stops : List Stop) (precedences : List Precedence) (why : JudgeRefusal) where
+module _ (lanes : ℕ → ℕ → Option ℕ) (lists : Lists) (why : JudgeRefusal) where
   abbrev pub JudgeCauseOf : JudgeCause → Type 0
-  JudgeCauseOf (NotAtGoal carrier stop place goal) = (why ≡ refusal.NotAtGoal carrier) × ShortOfGoal carriers carrier stop place goal
-  JudgeCauseOf (NoLane carrier stop from to) = (why ≡ refusal.NoLane stop) × Undriven lanes stops carrier stop from to
-  JudgeCauseOf (Undecided carrier stop other later place) = (why ≡ refusal.Undecided stop later) × Unordered stops precedences carrier stop other later place
-  JudgeCauseOf (HeadOn carrier stop place other stop' place') = (why ≡ refusal.HeadOn stop stop') × Opposed stops precedences carrier stop place other stop' place'
+  JudgeCauseOf (NotAtGoal carrier stop place goal) = (why ≡ refusal.NotAtGoal carrier) × ShortOfGoal lists.carriers carrier stop place goal
+  JudgeCauseOf (NoLane carrier stop from to) = (why ≡ refusal.NoLane stop) × Undriven lanes lists.stops carrier stop from to
+  JudgeCauseOf (Undecided carrier stop other later place) = (why ≡ refusal.Undecided stop later) × Unordered lists.stops lists.precedences carrier stop other later place
+  JudgeCauseOf (HeadOn carrier stop place other stop' place') = (why ≡ refusal.HeadOn stop stop') × Opposed lists.stops lists.precedences carrier stop place other stop' place'
+  JudgeCauseOf (Ring length) = why ≡ refusal.Ring length

@@ -1,41 +1,34 @@
 -- What a lag says: where it comes from on the sheet and in the yard.
-use Rattle.std.specs.Prelude.{◌≡◌, ℕ, ◌-◌, ◌<◌, List, length, Some, Option, slice_index_or}
+use Rattle.std.specs.Prelude.{◌≡◌, ℕ, ◌<◌, length, Some, Option, slice_index_or}
 use Rattle.lines.specs.declared.entry.Rule.{Rule}
-use Rattle.lines.specs.declared.entry.Rule.TheVariants.{FullLane, LaneLessOne, FixedGap}
-use Rattle.sheet.specs.declared.records.Stop.{Stop}
-use Rattle.sheet.specs.declared.records.Precedence.{Precedence}
+use Rattle.session.specs.Rules.{gaps_under}
 use Rattle.sheet.specs.Records.{no_stop, no_precedence}
+use Rattle.explain.specs.Lists.{Lists}
 use Rattle.explain.specs.declared.lag.Lag.{Lag}
 use Rattle.explain.specs.declared.lag.Lag.TheVariants.{Travel, Waiting}
 
--- the gap of a lane with this travel time
-abbrev pub gap_under_lem : Rule → ℕ → ℕ
-gap_under_lem FullLane time = time
-gap_under_lem LaneLessOne time = time - 1
-gap_under_lem (FixedGap gap) time = gap
-
-module _ (lanes : ℕ → ℕ → Option ℕ) (rule : Rule) (stops : List Stop) (precedences : List Precedence) (s t : ℕ) where
+module _ (lanes : ℕ → ℕ → Option ℕ) (rule : Rule) (lists : Lists) (s t : ℕ) where
   -- stop t follows stop s on the carrier's route, and the lane between their places has this travel time
   pub record Steps (carrier from to time : ℕ) : Type 0 where
-    pub follows : (slice_index_or stops t no_stop).previous ≡ Some s
-    pub carried : (slice_index_or stops t no_stop).carrier ≡ carrier
-    pub leaves : (slice_index_or stops s no_stop).place ≡ from
-    pub reaches : (slice_index_or stops t no_stop).place ≡ to
+    pub follows : (slice_index_or lists.stops t no_stop).previous ≡ Some s
+    pub carried : (slice_index_or lists.stops t no_stop).carrier ≡ carrier
+    pub leaves : (slice_index_or lists.stops s no_stop).place ≡ from
+    pub reaches : (slice_index_or lists.stops t no_stop).place ≡ to
     pub lane : lanes from to ≡ Some time
 
   -- the first carrier goes first at the place, and on to stop s at the next place; stop t is that of the second carrier at
   -- the place
   pub record Waits (first second place next gap time : ℕ) : Type 0 where
     pub k : ℕ
-    pub stands : k < length precedences
-    pub first_is : (slice_index_or precedences k no_precedence).first ≡ first
-    pub second_is : (slice_index_or precedences k no_precedence).second ≡ second
-    pub place_is : (slice_index_or precedences k no_precedence).place ≡ place
-    pub second_stop : (slice_index_or precedences k no_precedence).second_stop ≡ t
-    pub follows : (slice_index_or stops s no_stop).previous ≡ Some (slice_index_or precedences k no_precedence).first_stop
-    pub reaches : (slice_index_or stops s no_stop).place ≡ next
+    pub stands : k < length lists.precedences
+    pub first_is : (slice_index_or lists.precedences k no_precedence).first ≡ first
+    pub second_is : (slice_index_or lists.precedences k no_precedence).second ≡ second
+    pub place_is : (slice_index_or lists.precedences k no_precedence).place ≡ place
+    pub second_stop : (slice_index_or lists.precedences k no_precedence).second_stop ≡ t
+    pub follows : (slice_index_or lists.stops s no_stop).previous ≡ Some (slice_index_or lists.precedences k no_precedence).first_stop
+    pub reaches : (slice_index_or lists.stops s no_stop).place ≡ next
     pub lane : lanes place next ≡ Some time
-    pub gap_is : gap ≡ gap_under_lem rule time
+    pub gap_is : gap ≡ gaps_under rule place next time
 
   -- this is the lag from stop s to stop t
   abbrev pub LagBetween : Lag → Type 0

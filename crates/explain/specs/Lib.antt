@@ -4,4 +4,5 @@ pub mod Facts
 pub mod Judged
 pub mod LaneFaults
 pub mod Lags
+pub mod Lists
 pub mod Ticks

@@ -1,211 +1,222 @@
 // Finding why the sheet refuses an entry.
-ghost use Rattle.std.specs.Prelude.{◌≡◌, ℕ, IfSome};
-ghost use Rattle.sheet.specs.Refusals.{number_of};
-ghost use Rattle.explain.specs.Causes.{CarrierCause, CauseOf, OrderCause, StopCause, cause_number};
-ghost use Rattle.explain.specs.Facts.{Absent, AtGoal, Visits};
-ghost use Rattle.explain.specs.declared.cause.Cause.TheVariants.{NoCarrier, NotOnRoute};
+ghost use Rattle.std.specs.Prelude.{◌≡◌, ℕ, ◌<◌, ◌≤◌, length, IfSome};
+ghost use Rattle.std.specs.Option.{SomeIff};
+ghost use Rattle.sheet.specs.declared.refusal.EntryRefusal.TheVariants.{EndTaken, FirstsGoalOrSecondsStart, NothingToStrike};
+ghost use Rattle.explain.specs.Causes.{CarrierCause, CauseOf, OrderCause, StopCause, refusal_of};
+ghost use Rattle.explain.specs.Facts.{AtGoal, Orders, Visits};
+ghost use Rattle.explain.specs.declared.cause.Cause.TheVariants.{Decided, NoCarrier, NotOnRoute, PlaceTooHigh};
 
 use crate::cause::Cause;
-use crate::records::Records;
+use crate::records::{Records, reversed};
 use keyed::find;
 use lines::entry::Entry;
-use sheet::records::{Goal, Start};
+use sheet::records::{Goal, Order, Start};
 use sheet::refusal::EntryRefusal;
 
-// Which end of a new carrier is taken, and by whom.
-fn end_taken(records: Records, start: u16, goal: u16) -> Option<Cause>
-    ensures { IfSome result (λ cause. CarrierCause records.entry.carriers.now records.entry.stops.now start goal cause × (cause_number cause ≡ 3)) }
+// The cause that the place is too high, where it is.
+fn too_high(place: u16) -> Option<Cause>
+    ensures { SomeIff result (4095 < place) (PlaceTooHigh place) }
 {
-    if let Some(carrier) = find(records.carriers, &Start(start)) {
-        return Some(Cause::StartTaken {
-            place: start,
-            carrier,
-        });
-    }
-    let carrier = find(records.carriers, &Goal(goal))?;
-    Some(Cause::GoalTaken {
-        place: goal,
-        carrier,
-    })
+    (place > 4095).then_some(Cause::PlaceTooHigh { place })
 }
 
-// Why a carrier is refused.
-fn carrier_cause(records: Records, start: u16, goal: u16, why: EntryRefusal) -> Option<Cause>
-    ensures { IfSome result (λ cause. CarrierCause records.entry.carriers.now records.entry.stops.now start goal cause × (cause_number cause ≡ number_of why)) }
-{
-    match why {
-        EntryRefusal::PlaceTooHigh if start > 4095 => Some(Cause::PlaceTooHigh { place: start }),
-        EntryRefusal::PlaceTooHigh if goal > 4095 => Some(Cause::PlaceTooHigh { place: goal }),
-        EntryRefusal::LimitReached if records.carriers.len() >= 64 => Some(Cause::TooManyCarriers),
-        EntryRefusal::LimitReached if records.stops.len() >= 1024 => Some(Cause::TooManyStops),
-        EntryRefusal::EndTaken => end_taken(records, start, goal),
-        _ => None,
-    }
-}
-
-// The goal of a carrier whose route has reached it.
-fn goal_reached(records: Records, carrier: u8) -> Option<u16>
-    ensures { IfSome result (λ goal. AtGoal records.entry.carriers.now carrier goal) }
-{
-    let record = records.carriers.get(carrier as usize)?;
-    if record.is_at_goal() {
-        Some(record.goal)
-    } else {
-        None
-    }
-}
-
-// Why a stop is refused.
-fn stop_cause(records: Records, carrier: u8, place: u16, why: EntryRefusal) -> Option<Cause>
-    ensures { IfSome result (λ cause. StopCause records.entry.carriers.now records.entry.stops.now carrier place cause × (cause_number cause ≡ number_of why)) }
-{
-    let carriers = records.carriers.len();
-    match why {
-        EntryRefusal::NoCarrier if carrier as usize >= carriers => {
-            Some(Cause::NoCarrier { carrier, carriers })
-        }
-        EntryRefusal::PlaceTooHigh if place > 4095 => Some(Cause::PlaceTooHigh { place }),
-        EntryRefusal::RouteAtGoal => {
-            let goal = goal_reached(records, carrier)?;
-            Some(Cause::AtGoal { carrier, goal })
-        }
-        EntryRefusal::PlaceOnRoute => {
-            let stop = records.stop_at(carrier, place)?;
-            Some(Cause::OnRoute {
+impl Records<'_> {
+    // Which end of a new carrier is taken, and by whom. By `map` and `or`, the proof of what it returns stays open.
+    fn end_taken(&self, start: u16, goal: u16) -> Option<Cause>
+        ensures { IfSome result (λ cause. CarrierCause self.now start goal cause × (refusal_of cause ≡ EndTaken)) }
+    {
+        if let Some(carrier) = find(self.carriers, &Start(start)) {
+            return Some(Cause::StartTaken {
+                place: start,
                 carrier,
-                place,
-                stop,
-            })
+            });
         }
-        EntryRefusal::LimitReached if records.stops.len() >= 1024 => Some(Cause::TooManyStops),
-        _ => None,
+        let carrier = find(self.carriers, &Goal(goal))?;
+        Some(Cause::GoalTaken {
+            place: goal,
+            carrier,
+        })
     }
-}
 
-// The cause that the sheet has no such carrier, where it has none.
-fn absent(records: Records, carrier: u8) -> Option<Cause>
-    ensures { IfSome result (λ cause. (n : ℕ) × (cause ≡ NoCarrier carrier n) × Absent records.entry.carriers.now carrier n) }
-{
-    let carriers = records.carriers.len();
-    if carrier as usize >= carriers {
-        Some(Cause::NoCarrier { carrier, carriers })
-    } else {
+    // Why a carrier is refused.
+    fn carrier_cause(&self, start: u16, goal: u16, why: EntryRefusal) -> Option<Cause>
+        ensures { IfSome result (λ cause. CarrierCause self.now start goal cause × (refusal_of cause ≡ why)) }
+    {
+        match why {
+            EntryRefusal::PlaceTooHigh => too_high(start).or(too_high(goal)),
+            EntryRefusal::LimitReached if self.carriers.len() >= 64 => Some(Cause::TooManyCarriers),
+            EntryRefusal::LimitReached if self.stops.len() >= 1024 => Some(Cause::TooManyStops),
+            EntryRefusal::EndTaken => self.end_taken(start, goal),
+            _ => None,
+        }
+    }
+
+    // The goal of a carrier whose route has reached it.
+    fn goal_reached(&self, carrier: u8) -> Option<u16>
+        ensures { IfSome result (AtGoal self.now.carriers carrier) }
+    {
+        let record = self.carriers.get(usize::from(carrier))?;
+        record.is_at_goal().then_some(record.goal)
+    }
+
+    // Why a stop is refused.
+    fn stop_cause(&self, carrier: u8, place: u16, why: EntryRefusal) -> Option<Cause>
+        ensures { IfSome result (λ cause. StopCause self.now carrier place cause × (refusal_of cause ≡ why)) }
+    {
+        match why {
+            EntryRefusal::NoCarrier => self.absent(carrier),
+            EntryRefusal::PlaceTooHigh => too_high(place),
+            EntryRefusal::RouteAtGoal => {
+                let goal = self.goal_reached(carrier)?;
+                Some(Cause::AtGoal { carrier, goal })
+            }
+            EntryRefusal::PlaceOnRoute => {
+                let stop = self.stop_at(carrier, place)?;
+                Some(Cause::OnRoute {
+                    carrier,
+                    place,
+                    stop,
+                })
+            }
+            EntryRefusal::LimitReached if self.stops.len() >= 1024 => Some(Cause::TooManyStops),
+            _ => None,
+        }
+    }
+
+    // The cause that the sheet has no such carrier, where it has none.
+    fn absent(&self, carrier: u8) -> Option<Cause>
+        ensures { SomeIff result (length self.now.carriers ≤ carrier) (NoCarrier carrier (length self.now.carriers)) }
+    {
+        let carriers = self.carriers.len();
+        (usize::from(carrier) >= carriers).then_some(Cause::NoCarrier { carrier, carriers })
+    }
+
+    // The cause that the place is not on the carrier's route, where it is not.
+    fn off_route(&self, carrier: u8, place: u16) -> Option<Cause>
+        ensures { SomeIff result ((k : ℕ) → Visits self.now.stops carrier place k → ⊥) (NotOnRoute carrier place) }
+    {
+        let stop = self.stop_at(carrier, place);
+        stop.is_none()
+            .then_some(Cause::NotOnRoute { carrier, place })
+    }
+
+    // The cause that the precedence stands, where it does.
+    fn decided(&self, order: Order) -> Option<Cause>
+        ensures { SomeIff result ((k : ℕ) × Orders self.now.precedences order.first order.second order.place k) (Decided order.first order.second order.place) }
+    {
+        self.standing(order)?;
+        Some(Cause::Decided {
+            first: order.first,
+            second: order.second,
+            place: order.place,
+        })
+    }
+
+    // That the precedence does not stand, or only the other way round.
+    fn not_standing(&self, order: Order) -> Option<Cause>
+        ensures { IfSome result (λ cause. OrderCause self.now order.first order.second order.place cause × (refusal_of cause ≡ NothingToStrike)) }
+    {
+        if self.standing(order).is_some() {
+            return None;
+        }
+        let Order {
+            first,
+            second,
+            place,
+        } = order;
+        if self.standing(reversed(order)).is_some() {
+            return Some(Cause::OtherWayRound {
+                first: second,
+                second: first,
+                place,
+            });
+        }
+        Some(Cause::NoPrecedence {
+            first,
+            second,
+            place,
+        })
+    }
+
+    // The cause that the place is the goal of the first carrier or the start of the second, where it is.
+    fn end_of_route(&self, order: Order) -> Option<Cause>
+        ensures { IfSome result (λ cause. OrderCause self.now order.first order.second order.place cause × (refusal_of cause ≡ FirstsGoalOrSecondsStart)) }
+    {
+        let Order {
+            first,
+            second,
+            place,
+        } = order;
+        if self.carriers.get(usize::from(first))?.goal == place {
+            return Some(Cause::FirstsGoal {
+                carrier: first,
+                place,
+            });
+        }
+        if self.carriers.get(usize::from(second))?.start == place {
+            return Some(Cause::SecondsStart {
+                carrier: second,
+                place,
+            });
+        }
         None
     }
-}
 
-// The cause that the place is not on the carrier's route, where it is not.
-fn off_route(records: Records, carrier: u8, place: u16) -> Option<Cause>
-    ensures { IfSome result (λ cause. (cause ≡ NotOnRoute carrier place) × ((k : ℕ) → Visits records.entry.stops.now carrier place k → ⊥)) }
-{
-    match records.stop_at(carrier, place) {
-        Some(_) => None,
-        None => Some(Cause::NotOnRoute { carrier, place }),
-    }
-}
-
-// Which precedence of the two carriers stands at the place.
-fn decided(records: Records, first: u8, second: u8, place: u16) -> Option<Cause>
-    ensures { IfSome result (λ cause. OrderCause records.entry.carriers.now records.entry.stops.now records.entry.precedences.now first second place cause × (cause_number cause ≡ 10)) }
-{
-    if records.standing(first, second, place).is_some() {
-        return Some(Cause::Decided {
+    // Why a precedence, or the striking of one, is refused.
+    fn order_cause(&self, order: Order, why: EntryRefusal) -> Option<Cause>
+        ensures { IfSome result (λ cause. OrderCause self.now order.first order.second order.place cause × (refusal_of cause ≡ why)) }
+    {
+        let Order {
             first,
             second,
             place,
-        });
-    }
-    let _ = records.standing(second, first, place)?;
-    Some(Cause::Decided {
-        first: second,
-        second: first,
-        place,
-    })
-}
-
-// That the precedence does not stand, or only the other way round.
-fn not_standing(records: Records, first: u8, second: u8, place: u16) -> Option<Cause>
-    ensures { IfSome result (λ cause. OrderCause records.entry.carriers.now records.entry.stops.now records.entry.precedences.now first second place cause × (cause_number cause ≡ 11)) }
-{
-    if records.standing(first, second, place).is_some() {
-        return None;
-    }
-    match records.standing(second, first, place) {
-        Some(_) => Some(Cause::OtherWayRound {
-            first: second,
-            second: first,
-            place,
-        }),
-        None => Some(Cause::NoPrecedence {
-            first,
-            second,
-            place,
-        }),
-    }
-}
-
-// Whether the place is the goal of the first carrier or the start of the second.
-fn end_of_route(records: Records, first: u8, second: u8, place: u16) -> Option<Cause>
-    ensures { IfSome result (λ cause. OrderCause records.entry.carriers.now records.entry.stops.now records.entry.precedences.now first second place cause × (cause_number cause ≡ 9)) }
-{
-    if records.carriers.get(first as usize)?.goal == place {
-        return Some(Cause::FirstsGoal {
-            carrier: first,
-            place,
-        });
-    }
-    if records.carriers.get(second as usize)?.start == place {
-        return Some(Cause::SecondsStart {
-            carrier: second,
-            place,
-        });
-    }
-    None
-}
-
-// Why a precedence, or the striking of one, is refused.
-fn order_cause(
-    records: Records,
-    first: u8,
-    second: u8,
-    place: u16,
-    why: EntryRefusal,
-) -> Option<Cause>
-    ensures { IfSome result (λ cause. OrderCause records.entry.carriers.now records.entry.stops.now records.entry.precedences.now first second place cause × (cause_number cause ≡ number_of why)) }
-{
-    match why {
-        EntryRefusal::NoCarrier => absent(records, first).or(absent(records, second)),
-        EntryRefusal::SameCarrier if first == second => Some(Cause::SameCarrier { carrier: first }),
-        EntryRefusal::NotOnBothRoutes => {
-            off_route(records, first, place).or(off_route(records, second, place))
+        } = order;
+        match why {
+            EntryRefusal::NoCarrier => self.absent(first).or(self.absent(second)),
+            EntryRefusal::SameCarrier if first == second => {
+                Some(Cause::SameCarrier { carrier: first })
+            }
+            EntryRefusal::NotOnBothRoutes => {
+                self.off_route(first, place)
+                    .or(self.off_route(second, place))
+            }
+            EntryRefusal::FirstsGoalOrSecondsStart => self.end_of_route(order),
+            EntryRefusal::AlreadyDecided => {
+                self.decided(order).or(self.decided(reversed(order)))
+            }
+            EntryRefusal::LimitReached if self.precedences.len() >= 2048 => {
+                Some(Cause::TooManyPrecedences)
+            }
+            EntryRefusal::NothingToStrike => self.not_standing(order),
+            _ => None,
         }
-        EntryRefusal::FirstsGoalOrSecondsStart => end_of_route(records, first, second, place),
-        EntryRefusal::AlreadyDecided => decided(records, first, second, place),
-        EntryRefusal::LimitReached if records.precedences.len() >= 2048 => {
-            Some(Cause::TooManyPrecedences)
-        }
-        EntryRefusal::NothingToStrike => not_standing(records, first, second, place),
-        _ => None,
     }
-}
 
-// Why an entry is refused.
-pub(crate) fn cause_of(records: Records, entry: Entry, why: EntryRefusal) -> Option<Cause>
-    ensures { IfSome result (λ cause. CauseOf records.entry.carriers.now records.entry.stops.now records.entry.precedences.now entry cause × (cause_number cause ≡ number_of why)) }
-{
-    match entry {
-        Entry::Carrier { start, goal } => carrier_cause(records, start, goal, why),
-        Entry::Stop { carrier, place } => stop_cause(records, carrier, place, why),
-        Entry::Precedence {
-            first,
-            second,
-            place,
-        } => order_cause(records, first, second, place, why),
-        Entry::Strike {
-            first,
-            second,
-            place,
-        } => order_cause(records, first, second, place, why),
-        Entry::Judge { .. } | Entry::Lane { .. } => None,
+    // Why an entry is refused. The kinds carry different data, so each arm asks for itself.
+    pub(crate) fn cause_of(&self, entry: Entry, why: EntryRefusal) -> Option<Cause>
+        ensures { IfSome result (λ cause. CauseOf self.now entry cause × (refusal_of cause ≡ why)) }
+    {
+        match entry {
+            Entry::Carrier { start, goal } => self.carrier_cause(start, goal, why),
+            Entry::Stop { carrier, place } => self.stop_cause(carrier, place, why),
+            Entry::Precedence {
+                first,
+                second,
+                place,
+            }
+            | Entry::Strike {
+                first,
+                second,
+                place,
+            } => {
+                let order = Order {
+                    first,
+                    second,
+                    place,
+                };
+                self.order_cause(order, why)
+            }
+            Entry::Judge { .. } | Entry::Lane { .. } => None,
+        }
     }
 }

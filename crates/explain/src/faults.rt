@@ -1,11 +1,11 @@
 // What is wrong with a line that cannot be read.
-ghost use Rattle.std.specs.Prelude.{◌<◌};
-
 use crate::text::{Printable, RuleName};
 use lines::entry::{Input, Rule};
 use lines::refusal::LineRefusal;
-use std::fmt;
+use std::ops::Range;
+use std::{fmt, str};
 
+// Kinds and rules are bytes here, shown as they stand in the line: most bytes are no kind, and no rule.
 #[derive(Clone, Copy)]
 pub(crate) enum LineFault {
     // The byte at the column is no digit.
@@ -101,93 +101,70 @@ impl fmt::Display for LineFault {
     }
 }
 
-// The value of a hexadecimal digit, 0 for any other byte.
-fn digit_value(byte: u8) -> u8
-    ensures { result < 16 }
-{
-    match byte {
-        b'0'..=b'9' => byte - b'0',
-        b'A'..=b'F' => byte - b'A' + 10,
-        _ => 0,
-    }
-}
-
-// The byte of two digits.
-fn byte_of(high: u8, low: u8) -> u8 {
-    digit_value(high) * 16 + digit_value(low)
+// The byte that two digits of a line stand for.
+fn byte_at(line: &[u8], digits: Range<usize>) -> Option<u8> {
+    let text = str::from_utf8(line.get(digits)?).ok()?;
+    u8::from_str_radix(text, 16).ok()
 }
 
 // What is wrong with the length of a line of digits.
-fn length_fault(line: &[u8]) -> LineFault {
-    let digits = line.len();
-    if digits > 64 {
-        return LineFault::TooLong;
-    }
-    let [high, low, ..] = line else {
-        return if digits == 0 {
-            LineFault::Empty
-        } else {
-            LineFault::Odd { digits }
-        };
-    };
-    if digits % 2 == 1 {
-        return LineFault::Odd { digits };
-    }
-    let kind = byte_of(*high, *low);
-    let wanted = match kind {
-        0x02 | 0x05 => 8,
-        0x06 => 14,
-        _ => 10,
-    };
-    LineFault::WrongLength {
-        kind,
-        digits,
-        wanted,
+fn length_fault(line: &[u8]) -> Option<LineFault> {
+    match line.len() {
+        0 => Some(LineFault::Empty),
+        65.. => Some(LineFault::TooLong),
+        digits if digits % 2 == 1 => Some(LineFault::Odd { digits }),
+        digits => {
+            let kind = byte_at(line, 0..2)?;
+            let wanted = match kind {
+                0x02 | 0x05 => 8,
+                0x06 => 14,
+                _ => 10,
+            };
+            Some(LineFault::WrongLength {
+                kind,
+                digits,
+                wanted,
+            })
+        }
     }
 }
 
 // What is wrong with the kind of a line of digits.
-fn kind_fault(line: &[u8], input: Input) -> LineFault {
-    let kind = match line {
-        [high, low, ..] => byte_of(*high, *low),
-        _ => 0,
-    };
-    match (input, kind) {
+fn kind_fault(line: &[u8], input: Input) -> Option<LineFault> {
+    let kind = byte_at(line, 0..2)?;
+    Some(match (input, kind) {
         (Input::Yard, _) => LineFault::NoLane { kind },
         (Input::Sheet, 0x06) => LineFault::LaneInSheet,
         (Input::Sheet, _) => LineFault::UnknownKind { kind },
-    }
+    })
 }
 
 // What is wrong with the rule or the gap of a line of digits that asks for a judging.
 fn rule_fault(line: &[u8]) -> Option<LineFault> {
-    let [_, _, r1, r0, g3, g2, g1, g0] = line else {
-        return None;
-    };
-    let gap = u16::from_be_bytes([byte_of(*g3, *g2), byte_of(*g1, *g0)]);
-    match byte_of(*r1, *r0) {
-        0x00 => Some(LineFault::GapNotTaken {
+    let gap = u16::from_be_bytes([byte_at(line, 4..6)?, byte_at(line, 6..8)?]);
+    Some(match byte_at(line, 2..4)? {
+        0x00 => LineFault::GapNotTaken {
             rule: Rule::FullLane,
             gap,
-        }),
-        0x01 => Some(LineFault::GapNotTaken {
+        },
+        0x01 => LineFault::GapNotTaken {
             rule: Rule::LaneLessOne,
             gap,
-        }),
-        0x02 => Some(LineFault::GapTooLong { gap }),
-        rule => Some(LineFault::UnknownRule { rule }),
-    }
+        },
+        0x02 => LineFault::GapTooLong { gap },
+        rule => LineFault::UnknownRule { rule },
+    })
 }
 
 // What is wrong with a line that was refused.
 pub(crate) fn fault_of(line: &[u8], input: Input, why: LineRefusal) -> Option<LineFault> {
     match why {
         LineRefusal::BadDigit { column } => Some(LineFault::BadByte {
-            byte: *line.get(column as usize)?,
+            byte: *line.get(usize::from(column))?,
             column,
         }),
-        LineRefusal::BadLength => Some(length_fault(line)),
-        LineRefusal::UnknownKind => Some(kind_fault(line, input)),
+        LineRefusal::BadLength => length_fault(line),
+        LineRefusal::UnknownKind => kind_fault(line, input),
         LineRefusal::BadRule => rule_fault(line),
     }
 }

@@ -1,4 +1,5 @@
 // A cause why a sheet does not pass.
+use crate::text::Counted;
 use std::fmt;
 
 #[derive(Clone, Copy)]
@@ -33,6 +34,10 @@ pub(crate) enum JudgeCause {
         other: u8,
         other_stop: u16,
         other_place: u16,
+    },
+    // There is a ring of waiting of this many stops.
+    Ring {
+        length: u16,
     },
 }
 
@@ -77,6 +82,14 @@ impl fmt::Display for JudgeCause {
             } => write!(
                 f,
                 "carriers {carrier} and {other} are set head on between places {place} and {other_place}\n         carrier {carrier} goes from place {place} (stop {stop}) to place {other_place}, and goes first at place {place}\n         carrier {other} goes from place {other_place} (stop {other_stop}) to place {place}, and goes first at place {other_place}"
+            ),
+            JudgeCause::Ring { length } => write!(
+                f,
+                "a ring of waiting over {}",
+                Counted {
+                    number: u64::from(length),
+                    noun: "stop",
+                }
             ),
         }
     }

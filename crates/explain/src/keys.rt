@@ -3,11 +3,11 @@ use keyed::Keyed;
 use sheet::records::{Precedence, Stop};
 
 // The key of a stop: the stop before it on its route.
-#[derive(Clone, Copy)]
+#[derive(Clone, Copy, PartialEq, Eq)]
 pub(crate) struct Previous(pub Option<u16>);
 
 // The key of a precedence: the two carriers' stops at its place.
-#[derive(Clone, Copy)]
+#[derive(Clone, Copy, PartialEq, Eq)]
 pub(crate) struct StopPair {
     pub first_stop: u16,
     pub second_stop: u16,
@@ -17,7 +17,7 @@ impl Keyed<Previous> for Stop {
     ghost key = { λ s. record { 0 = s.previous } };
 
     fn has_key(&self, wanted: &Previous) -> bool {
-        self.previous == wanted.0
+        *wanted == Previous(self.previous)
     }
 }
 
@@ -25,6 +25,10 @@ impl Keyed<StopPair> for Precedence {
     ghost key = { λ s. record { first_stop = s.first_stop; second_stop = s.second_stop } };
 
     fn has_key(&self, wanted: &StopPair) -> bool {
-        self.first_stop == wanted.first_stop && self.second_stop == wanted.second_stop
+        let stops = StopPair {
+            first_stop: self.first_stop,
+            second_stop: self.second_stop,
+        };
+        *wanted == stops
     }
 }

@@ -3,6 +3,7 @@ ghost use Rattle.std.specs.Prelude.{◌≡◌};
 ghost use Rattle.explain.specs.Ticks.{ticks_of};
 
 use crate::text::Counted;
+use std::cmp::Ordering;
 use std::fmt;
 
 // Why a stop is reached so many ticks later than another.
@@ -47,12 +48,10 @@ impl fmt::Display for Offset {
         let number = self.0.unsigned_abs();
         let noun = "tick";
         let ticks = Counted { number, noun };
-        if self.0 > 0 {
-            write!(f, "{ticks} after ")
-        } else if self.0 < 0 {
-            write!(f, "{ticks} before ")
-        } else {
-            Ok(())
+        match self.0.cmp(&0) {
+            Ordering::Greater => write!(f, "{ticks} after "),
+            Ordering::Less => write!(f, "{ticks} before "),
+            Ordering::Equal => Ok(()),
         }
     }
 }

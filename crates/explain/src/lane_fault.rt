@@ -37,16 +37,21 @@ impl fmt::Display for LaneFault {
     }
 }
 
-// What is wrong with a lane outside the limits.
-fn limit_passed(lane: Lane, before: Option<Lane>) -> Option<LaneFault>
+// What is wrong with a lane outside the limits. The two places are asked for one by one, as one of them is named.
+fn limit_fault(lane: Lane, before: Option<Lane>) -> Option<LaneFault>
     ensures { IfSome result (λ fault. FaultOf lane before fault × (fault_number fault ≡ 18)) }
 {
-    match lane {
-        Lane { from, .. } if from > 4095 => Some(LaneFault::PlaceTooHigh { place: from }),
-        Lane { to, .. } if to > 4095 => Some(LaneFault::PlaceTooHigh { place: to }),
-        Lane { from, to, .. } if from == to => Some(LaneFault::NoWay { place: from }),
-        Lane { time, .. } if time == 0 || time > 36000 => Some(LaneFault::BadTime { time }),
-        _ => None,
+    let Lane { from, to, time } = lane;
+    if from > 4095 {
+        Some(LaneFault::PlaceTooHigh { place: from })
+    } else if to > 4095 {
+        Some(LaneFault::PlaceTooHigh { place: to })
+    } else if from == to {
+        Some(LaneFault::NoWay { place: from })
+    } else if !(1..=36000).contains(&time) {
+        Some(LaneFault::BadTime { time })
+    } else {
+        None
     }
 }
 
@@ -55,7 +60,7 @@ pub(crate) fn lane_fault_of(lane: Lane, before: Option<Lane>, why: LayRefusal) -
     ensures { IfSome result (λ fault. FaultOf lane before fault × (fault_number fault ≡ number_of why)) }
 {
     match why {
-        LayRefusal::BadLane { .. } => limit_passed(lane, before),
+        LayRefusal::BadLane { .. } => limit_fault(lane, before),
         LayRefusal::NotRising { .. } => Some(LaneFault::NotRising {
             lane,
             before: before?,

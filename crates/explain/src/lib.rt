@@ -14,6 +14,7 @@ pub mod program;
 mod records;
 mod rings;
 mod sheet_lags;
+mod site;
 mod text;
 mod timetables;
 mod yards;

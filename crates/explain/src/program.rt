@@ -1,7 +1,7 @@
 // The program that explains a sheet line by line.
 use crate::answers::write_answer;
 use crate::faults::fault_of;
-use crate::text::{Quoted, Request};
+use crate::text::{Quoted, Refused, Request};
 use crate::yards::{write_refused_yard, write_yard};
 use console::files::load_yard;
 use console::input::{TakesLines, take_lines};
@@ -26,18 +26,16 @@ impl Explainer {
     fn explain_entry(&mut self, line: &[u8], entry: Entry, out: &mut impl Write) -> io::Result<()> {
         let digits = std::str::from_utf8(line).unwrap_or("");
         write!(out, "{digits:<10}  {}: ", Request(entry))?;
-        let answer = self.session.answer(line);
-        write_answer(&self.session, entry, answer, out)
+        let outcome = self.session.answer(line);
+        write_answer(&self.session, entry, outcome, out)
     }
 }
 
 // Writes what is wrong with a line that cannot be read.
 fn explain_fault(line: &[u8], why: LineRefusal, out: &mut impl Write) -> io::Result<()> {
-    write!(out, "{}: REFUSED ({})", Quoted(line), why.number())?;
-    if let Some(fault) = fault_of(line, Input::Sheet, why) {
-        write!(out, ": {fault}")?;
-    }
-    writeln!(out)
+    let number = why.number();
+    let cause = fault_of(line, Input::Sheet, why);
+    writeln!(out, "{}: {}", Quoted(line), Refused { number, cause })
 }
 
 impl TakesLines for Explainer {

@@ -1,54 +1,75 @@
 // What a sheet holds.
-ghost use Rattle.std.specs.Prelude.{ℕ, MatchOption};
+ghost use Rattle.std.specs.Prelude.{◌≡◌, ℕ, MatchOption};
+ghost use Rattle.sheet.specs.Sheets.{sheet_book};
 ghost use Rattle.explain.specs.Facts.{Follows, Orders, Visits};
+ghost use Rattle.explain.specs.Lists.{book_of};
 
 use crate::keys::Previous;
 use keyed::find;
 use sheet::records::{Carrier, Order, Precedence, Stop, Visit};
 use sheet::sheets::Sheet;
+use std::marker::Model;
 
-// The lists of a sheet.
-#[derive(Clone, Copy)]
+// The lists of a sheet, lent.
+#[derive(Drop)]
 pub(crate) struct Records<'a> {
     pub carriers: &'a [Carrier],
     pub stops: &'a [Stop],
     pub precedences: &'a [Precedence],
 }
 
+// A contract sees the lists themselves.
+impl<'a> Model for Records<'a> {
+    ghost use Rattle.explain.specs.Lists.{Lists};
+
+    ghost Value = { Lists };
+
+    ghost view = { λ r. record { carriers = r.carriers.now; stops = r.stops.now; precedences = r.precedences.now } };
+}
+
+// The same two carriers at the place, the other way round.
+pub(crate) fn reversed(order: Order) -> Order
+    ensures { result ≡ record { first = order.second; second = order.first; place = order.place } }
+{
+    Order {
+        first: order.second,
+        second: order.first,
+        place: order.place,
+    }
+}
+
 impl<'a> Records<'a> {
     // Those of this sheet.
-    pub(crate) fn of(sheet: &'a Sheet) -> Records<'a> {
+    pub(crate) fn of(sheet: &'a Sheet) -> Records<'a>
+        ensures { book_of result ≡ sheet_book sheet.now }
+    {
         Records {
             carriers: sheet.carriers(),
             stops: sheet.stops(),
             precedences: sheet.precedences(),
         }
     }
+}
 
-    // The number of the carrier's stop at the place.
-    pub(crate) fn stop_at(self, carrier: u8, place: u16) -> Option<usize>
-        ensures { MatchOption result ((k : ℕ) → Visits self.entry.stops.now carrier place k → ⊥) (λ k. Visits self.entry.stops.now carrier place k) }
+impl Records<'_> {
+    // The number of the carrier's stop at the place. Each look-up is the one search, by a key of its own. The carrier and
+    // the place are of two types, and causes name them one by one, so the key is made only here.
+    pub(crate) fn stop_at(&self, carrier: u8, place: u16) -> Option<usize>
+        ensures { MatchOption result ((k : ℕ) → Visits self.now.stops carrier place k → ⊥) (Visits self.now.stops carrier place) }
     {
         find(self.stops, &Visit { carrier, place })
     }
 
     // The index of the precedence, where it stands.
-    pub(crate) fn standing(self, first: u8, second: u8, place: u16) -> Option<usize>
-        ensures { MatchOption result ((k : ℕ) → Orders self.entry.precedences.now first second place k → ⊥) (λ k. Orders self.entry.precedences.now first second place k) }
+    pub(crate) fn standing(&self, order: Order) -> Option<usize>
+        ensures { MatchOption result ((k : ℕ) → Orders self.now.precedences order.first order.second order.place k → ⊥) (Orders self.now.precedences order.first order.second order.place) }
     {
-        find(
-            self.precedences,
-            &Order {
-                first,
-                second,
-                place,
-            },
-        )
+        find(self.precedences, &order)
     }
 
     // The number of the stop after this one on its route.
-    pub(crate) fn stop_after(self, stop: u16) -> Option<usize>
-        ensures { MatchOption result ((k : ℕ) → Follows self.entry.stops.now stop k → ⊥) (λ k. Follows self.entry.stops.now stop k) }
+    pub(crate) fn stop_after(&self, stop: u16) -> Option<usize>
+        ensures { MatchOption result ((k : ℕ) → Follows self.now.stops stop k → ⊥) (Follows self.now.stops stop) }
     {
         find(self.stops, &Previous(Some(stop)))
     }

@@ -102,3 +102,20 @@ impl fmt::Display for Quoted<'_> {
         }
     }
 }
+
+// That something is refused, with the number of the refusal, and after a colon the cause where one is known.
+#[derive(Clone, Copy)]
+pub(crate) struct Refused<T> {
+    pub number: u8,
+    pub cause: Option<T>,
+}
+
+impl<T: fmt::Display> fmt::Display for Refused<T> {
+    fn fmt<W: fmt::Write>(&self, f: &mut fmt::Formatter<W>) -> fmt::Result {
+        write!(f, "REFUSED ({})", self.number)?;
+        match &self.cause {
+            Some(cause) => write!(f, ": {cause}"),
+            None => Ok(()),
+        }
+    }
+}

@@ -1,71 +1,59 @@
 // Explaining the file of the yard.
 use crate::faults::fault_of;
 use crate::lane_fault::lane_fault_of;
-use crate::text::{Counted, Quoted};
+use crate::text::{Counted, Quoted, Refused};
 use console::input::{TakesLines, take_lines};
 use lane_yard::lane::Lane;
 use lane_yard::refusal::LayRefusal;
 use lane_yard::yards::LaneYard;
 use lines::entry::{Entry, Input};
 use lines::read::read_entry;
-use lines::refusal::LineRefusal;
 use session::answer::Refusal;
 use std::fs::File;
-use std::io;
 use std::io::Write;
+use std::{fmt, io};
 
-// Goes through the file once more for the line that it was refused for.
+// What a second reading of the file looks for: the line that it was refused for.
 #[derive(Drop)]
 struct RefusedLine {
-    refusal: Refusal,
+    // The refusal, until its line is found.
+    refusal: Option<Refusal>,
     // The number of lines so far, and the lane of the last one.
     lines: u64,
     before: Option<Lane>,
-    found: bool,
 }
 
 impl RefusedLine {
-    // Writes what is wrong with a line that cannot be read.
-    fn write_line(
+    // Writes that this is the line, and why it is refused.
+    fn write_found(
         &mut self,
         line: &[u8],
-        why: LineRefusal,
+        refused: &impl fmt::Display,
         out: &mut impl Write,
     ) -> io::Result<()> {
-        self.found = true;
+        self.refusal = None;
         let number = self.lines;
-        write!(
-            out,
-            "yard.hex, line {number}: {}: REFUSED ({})",
-            Quoted(line),
-            why.number()
-        )?;
-        if let Some(fault) = fault_of(line, Input::Yard, why) {
-            write!(out, ": {fault}")?;
-        }
-        writeln!(out)
+        writeln!(out, "yard.hex, line {number}: {}: {refused}", Quoted(line))
     }
 
-    // Writes what is wrong with a lane.
-    fn write_lane(
+    // Takes a lane, and writes what is wrong with it if it is the one that is refused.
+    fn take_lane(
         &mut self,
         line: &[u8],
         lane: Lane,
         why: LayRefusal,
         out: &mut impl Write,
     ) -> io::Result<()> {
-        self.found = true;
-        let number = self.lines;
-        write!(
-            out,
-            "yard.hex, line {number}: {}: REFUSED ({})",
-            Quoted(line),
-            why.number()
-        )?;
-        if let Some(fault) = lane_fault_of(lane, self.before, why) {
-            write!(out, ": {fault}")?;
+        let before = self.before.replace(lane);
+        let Some(index) = refused_index(why) else {
+            return Ok(());
+        };
+        if u64::from(index) + 1 != self.lines {
+            return Ok(());
         }
-        writeln!(out)
+        let number = why.number();
+        let cause = lane_fault_of(lane, before, why);
+        self.write_found(line, &Refused { number, cause }, out)
     }
 }
 
@@ -81,16 +69,13 @@ impl TakesLines for RefusedLine {
     fn take_line(&mut self, line: &[u8], out: &mut impl Write) -> io::Result<()> {
         self.lines = self.lines.saturating_add(1);
         match (self.refusal, read_entry(line, Input::Yard)) {
-            (Refusal::Line { .. }, Err(why)) if !self.found => self.write_line(line, why, out),
-            (Refusal::Lay { why }, Ok(Entry::Lane { from, to, time })) => {
-                let lane = Lane { from, to, time };
-                if let Some(index) = refused_index(why)
-                    && u64::from(index) + 1 == self.lines
-                {
-                    self.write_lane(line, lane, why, out)?;
-                }
-                self.before = Some(lane);
-                Ok(())
+            (Some(Refusal::Line { .. }), Err(why)) => {
+                let number = why.number();
+                let cause = fault_of(line, Input::Yard, why);
+                self.write_found(line, &Refused { number, cause }, out)
+            }
+            (Some(Refusal::Lay { why }), Ok(Entry::Lane { from, to, time })) => {
+                self.take_lane(line, Lane { from, to, time }, why, out)
             }
             _ => Ok(()),
         }
@@ -104,23 +89,24 @@ pub(crate) fn write_refused_yard(
     out: &mut impl Write,
 ) -> io::Result<()> {
     let mut search = RefusedLine {
-        refusal,
+        refusal: Some(refusal),
         lines: 0,
         before: None,
-        found: false,
     };
     if let Ok(mut file) = File::open(rt, "yard.hex") {
         take_lines(&mut file, &mut search, out)?;
     }
-    if search.found {
+    let Some(refusal) = search.refusal else {
         return Ok(());
-    }
-    match refusal {
+    };
+    let number = refusal.number();
+    let cause = match refusal {
         Refusal::Lay {
             why: LayRefusal::TooManyLanes,
-        } => { writeln!(out, "yard.hex: REFUSED (20): a yard has at most 8192 lanes") }
-        _ => writeln!(out, "yard.hex: REFUSED ({})", refusal.number()),
-    }
+        } => Some("a yard has at most 8192 lanes"),
+        _ => None,
+    };
+    writeln!(out, "yard.hex: {}", Refused { number, cause })
 }
 
 // Writes how many lanes the yard has.
