@@ -21,6 +21,7 @@ pub(crate) enum Fault {
     Judge { why: JudgeRefusal },
 }
 
+// The conversions are written out: the kit's derive for errors would want a text for each refusal, and nobody prints one.
 impl From<AllocError> for Fault {
     fn from(_why: AllocError) -> Fault {
         Fault::NoMemory
@@ -52,7 +53,7 @@ impl From<JudgeRefusal> for Fault {
 }
 
 impl Fault {
-    // The refusal's number and what it tells first; 0 and 0 where there is no memory.
+    // The refusal's number and what it tells first; 0 and 0 where there is no memory. The C interface has numbers.
     fn told(&self) -> (u8, u16) {
         match self {
             Fault::NoMemory => (0, 0),

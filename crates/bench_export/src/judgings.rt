@@ -12,85 +12,86 @@ use std::alloc::Global;
 use yard::rules::{FixedGap, FullLane, LaneLessOne};
 use yard::{FollowingRule, Yard};
 
-// A sheet with all entries, entered so many times and at least once.
-fn fill_often(heap: Global, entries: &[u16], sheets: u32) -> Result<Sheet, Fault> {
-    let (entries, _) = entries.as_chunks::<4>();
-    for _ in 1..sheets {
-        let _ = fill(heap, entries)?;
-    }
-    fill(heap, entries)
-}
-
-// Judges the sheet so many times, and answers as the last judging does; no judging answers 0.
-fn judge_often<Y: Yard, R: FollowingRule>(
-    sheet: &Sheet,
-    yard: &Y,
-    rule: &R,
-    judgings: u32,
-    timetable: &mut [u32],
-    ring: &mut [u16],
-) -> Result<u16, Fault>
-    ensures { IfOk result (λ stops. stops ≤ length timetable.new) }
-{
-    if judgings == 0 {
-        return Ok(0);
-    }
-    for _ in 1..judgings {
-        let _ = judge(sheet, yard, rule, timetable, ring);
-    }
-    Ok(judge(sheet, yard, rule, timetable, ring)?)
-}
-
-// The same under the rule with this number and this gap, as a line of a judging has them.
-fn judge_under<Y: Yard>(
-    sheet: &Sheet,
-    yard: &Y,
+// A sheet that is measured: its entries, the rule of its judgings, and how often it is entered and judged. The two pages
+// are no part of it: contracts speak of the timetable as it is left.
+#[derive(Clone, Copy)]
+struct Run<'a> {
+    // Fours: kind, then the fields in the order of a line, then 0 where there are fewer than three.
+    entries: &'a [u16],
+    sheets: u32,
+    // The number of the rule and its gap, as a line of a judging has them.
     rule: u16,
     gap: u16,
     judgings: u32,
-    timetable: &mut [u32],
-    ring: &mut [u16],
-) -> Result<u16, Fault>
-    ensures { IfOk result (λ stops. stops ≤ length timetable.new) }
-{
-    match rule {
-        0 => judge_often(sheet, yard, &FullLane, judgings, timetable, ring),
-        1 => judge_often(sheet, yard, &LaneLessOne, judgings, timetable, ring),
-        _ => {
-            let mut fixed = FixedGap::new();
-            let _ = fixed.set(gap);
-            judge_often(sheet, yard, &fixed, judgings, timetable, ring)
+}
+
+impl Run<'_> {
+    // The sheet with all entries, entered so many times and at least once. The loops count, as they repeat one call.
+    fn sheet(&self, heap: Global) -> Result<Sheet, Fault> {
+        let (entries, _) = self.entries.as_chunks::<4>();
+        for _ in 1..self.sheets {
+            let _ = fill(heap, entries)?;
+        }
+        fill(heap, entries)
+    }
+
+    // Judges the sheet so many times, and answers as the last judging does; no judging answers 0.
+    fn judge_often<Y: Yard, R: FollowingRule>(
+        &self,
+        sheet: &Sheet,
+        yard: &Y,
+        rule: &R,
+        timetable: &mut [u32],
+        ring: &mut [u16],
+    ) -> Result<u16, Fault>
+        ensures { IfOk result (λ stops. stops ≤ length timetable.new) }
+    {
+        if self.judgings == 0 {
+            return Ok(0);
+        }
+        for _ in 1..self.judgings {
+            let _ = judge(sheet, yard, rule, timetable, ring);
+        }
+        Ok(judge(sheet, yard, rule, timetable, ring)?)
+    }
+
+    // Enters the sheet and judges it in the yard. Each arm runs the judging that is made for one rule; a type for any rule
+    // would be no plainer, as its value would be made by the same match.
+    fn in_yard<Y: Yard>(
+        &self,
+        heap: Global,
+        yard: &Y,
+        timetable: &mut [u32],
+        ring: &mut [u16],
+    ) -> Result<u16, Fault>
+        ensures { IfOk result (λ stops. stops ≤ length timetable.new) }
+    {
+        let sheet = self.sheet(heap)?;
+        match self.rule {
+            0 => self.judge_often(&sheet, yard, &FullLane, timetable, ring),
+            1 => self.judge_often(&sheet, yard, &LaneLessOne, timetable, ring),
+            _ => {
+                let fixed = FixedGap::try_from(self.gap).unwrap_or(FixedGap::new());
+                self.judge_often(&sheet, yard, &fixed, timetable, ring)
+            }
         }
     }
 }
 
-// Lays the lanes so many times, enters the sheet so many times, and judges it so many times.
-fn in_lanes(
-    heap: Global,
-    lanes: &[u16],
-    layings: u32,
-    entries: &[u16],
-    sheets: u32,
-    rule: u16,
-    gap: u16,
-    judgings: u32,
-    timetable: &mut [u32],
-    ring: &mut [u16],
-) -> Result<u16, Fault>
-    ensures { IfOk result (λ stops. stops ≤ length timetable.new) }
-{
+// A yard with the lanes, laid so many times.
+fn lay(heap: Global, lanes: &[u16], layings: u32) -> Result<LaneYard, Fault> {
     let lanes = lanes_of(heap, lanes)?;
     let mut yard = LaneYard::new(heap)?;
     for _ in 0..layings {
         yard.lay(lanes.as_slice())?;
     }
-    let sheet = fill_often(heap, entries, sheets)?;
-    judge_under(&sheet, &yard, rule, gap, judgings, timetable, ring)
+    Ok(yard)
 }
 
-// The lanes are triples: from, to, travel time. The entries are fours: kind, then the fields in the order of a line,
-// then 0 where there are fewer than three. The answer is 0 where nothing is judged; one below 65,536 is a pass, with as
-// many arrivals at the front of the timetable.
+// Lays the lanes so many times, enters the sheet so many times, and judges it so many times. The lanes are triples:
+// from, to, travel time. The entries are fours: kind, then the fields in the order of a line, then 0 where there are
+// fewer than three. The answer is 0 where nothing is judged; one below 65,536 is a pass, with as many arrivals at the
+// front of the timetable.
 #[unsafe(no_mangle)]
 pub extern "C" fn vozhdeka_judge_lanes(
     heap: Global,
@@ -106,33 +107,25 @@ pub extern "C" fn vozhdeka_judge_lanes(
 ) -> u32
     ensures { result < 65536 → result ≤ length timetable.new }
 {
-    code_of(in_lanes(
-        heap, lanes, layings, entries, sheets, rule, gap, judgings, timetable, ring,
-    ))
+    let run = Run {
+        entries,
+        sheets,
+        rule,
+        gap,
+        judgings,
+    };
+    let yard = lay(heap, lanes, layings);
+    code_of(yard.and_then(|yard| run.in_yard(heap, &yard, timetable, ring)))
 }
 
-// Sets out the grid, enters the sheet so many times, and judges it so many times.
-fn in_grid(
-    heap: Global,
-    plan: Plan,
-    closed: &[u64],
-    entries: &[u16],
-    sheets: u32,
-    rule: u16,
-    gap: u16,
-    judgings: u32,
-    timetable: &mut [u32],
-    ring: &mut [u16],
-) -> Result<u16, Fault>
-    ensures { IfOk result (λ stops. stops ≤ length timetable.new) }
-{
+// A yard with the grid set out.
+fn set_out(heap: Global, plan: Plan, closed: &[u64]) -> Result<GridYard, Fault> {
     let mut yard = GridYard::new(heap)?;
     yard.set_out(plan, closed)?;
-    let sheet = fill_often(heap, entries, sheets)?;
-    judge_under(&sheet, &yard, rule, gap, judgings, timetable, ring)
+    Ok(yard)
 }
 
-// The same in a grid.
+// The same in a grid, which is set out once. A function of its own, since the C interface has two.
 #[unsafe(no_mangle)]
 pub extern "C" fn vozhdeka_judge_grid(
     heap: Global,
@@ -157,7 +150,13 @@ pub extern "C" fn vozhdeka_judge_grid(
         along,
         across,
     };
-    code_of(in_grid(
-        heap, plan, closed, entries, sheets, rule, gap, judgings, timetable, ring,
-    ))
+    let run = Run {
+        entries,
+        sheets,
+        rule,
+        gap,
+        judgings,
+    };
+    let yard = set_out(heap, plan, closed);
+    code_of(yard.and_then(|yard| run.in_yard(heap, &yard, timetable, ring)))
 }

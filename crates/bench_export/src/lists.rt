@@ -7,30 +7,30 @@ use std::alloc::{AllocError, Global};
 
 // The lanes of a list of triples: from, to, travel time.
 pub(crate) fn lanes_of(heap: Global, numbers: &[u16]) -> Result<Vec<Lane>, AllocError> {
-    let mut lanes = Vec::new(heap);
     let (triples, _) = numbers.as_chunks::<3>();
-    for triple in triples {
-        lanes.push(Lane {
-            from: triple[0],
-            to: triple[1],
-            time: triple[2],
-        })?;
-    }
-    Ok(lanes)
+    triples
+        .iter()
+        .map(|&[from, to, time]| Lane { from, to, time })
+        .collect(heap)
 }
 
-// A number as that of a carrier; one that is too high is no carrier's.
+// A number as that of a carrier, the highest where it is too high. A sheet has no carrier of that number and says so, so
+// that an `Option` here would only repeat the sheet's own check.
 fn carrier_of(number: u16) -> u8 {
-    u8::try_from(number).unwrap_or(255)
+    u8::try_from(number).unwrap_or(u8::MAX)
 }
 
 // Makes the call of an entry: its kind, then its fields in the order of a line.
 fn enter(sheet: &mut Sheet, entry: &[u16; 4]) -> Result<u16, EntryRefusal> {
-    match entry[0] {
-        1 => sheet.enter_carrier(entry[1], entry[2]),
-        2 => sheet.enter_stop(carrier_of(entry[1]), entry[2]),
-        3 => sheet.enter_precedence(carrier_of(entry[1]), carrier_of(entry[2]), entry[3]),
-        _ => sheet.strike_precedence(carrier_of(entry[1]), carrier_of(entry[2]), entry[3]),
+    match *entry {
+        [1, start, goal, _] => sheet.enter_carrier(start, goal),
+        [2, carrier, place, _] => sheet.enter_stop(carrier_of(carrier), place),
+        [3, first, second, place] => {
+            sheet.enter_precedence(carrier_of(first), carrier_of(second), place)
+        }
+        [_, first, second, place] => {
+            sheet.strike_precedence(carrier_of(first), carrier_of(second), place)
+        }
     }
 }
 

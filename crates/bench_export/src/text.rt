@@ -21,16 +21,13 @@ fn copy_line(line: &[u8], input: Input, page: &mut [u8], at: usize) -> usize {
     end.saturating_add(1)
 }
 
-// Reads each line of the text and writes its entry into the page; answers how many bytes were written.
+// Reads each line of the text and writes its entry into the page; answers how many bytes were written. What follows
+// the last newline is no line.
 fn copy(text: &[u8], input: Input, page: &mut [u8]) -> usize {
-    let mut start = 0;
     let mut at = 0;
-    for i in 0..text.len() {
-        if text[i] == b'\n' {
-            if start <= i {
-                at = copy_line(&text[start..i], input, page, at);
-            }
-            start = i + 1;
+    for line in text.split_inclusive(|byte| *byte == b'\n') {
+        if let [line @ .., b'\n'] = line {
+            at = copy_line(line, input, page, at);
         }
     }
     at

@@ -1,33 +1,25 @@
 -- What is asked in a run and what is answered, as a history.
-use Rattle.std.specs.Prelude.{◌≡◌, ℕ, List, [], ◌∷◌, Some, Ok, Err, Result}
+use Rattle.std.specs.Prelude.{◌≡◌, ℕ, List, [], ◌∷◌, Some}
 use Rattle.judge.specs.Findings.{Setting}
 use Rattle.judge.specs.FindingHistories.{Event, entered, judged, Lawful}
 use Rattle.plan.specs.Plans.{Lanes, Gaps}
 use Rattle.sheet.specs.Book.{Book}
 use Rattle.sheet.specs.Calls.{Call as Entry, enter_carrier, enter_stop, enter_precedence, strike_precedence}
 use Rattle.sheet.specs.Histories.{History, opening, ◌▹◌}
-use Rattle.sheet.specs.declared.refusal.EntryRefusal.{EntryRefusal}
 use Rattle.play.specs.Verdicts.{finding_of}
 use Rattle.play.specs.declared.answers.Answer.{Answer}
-use Rattle.play.specs.declared.answers.Answer.TheVariants.{Accepted, Refused, Judged}
+use Rattle.play.specs.declared.answers.Answer.TheVariants.{Entered, Judged}
 use Rattle.play.specs.declared.calls.Call.{Call}
 use Rattle.play.specs.declared.calls.Call.TheVariants.{EnterCarrier, EnterStop, EnterPrecedence, StrikePrecedence, Judge}
 
--- what an entry or a striking is answered
-abbrev pub entered_as : Result ℕ EntryRefusal → Answer
-entered_as (Ok number) = Accepted number
-entered_as (Err why) = Refused why
-
 -- an entry or a striking with its answer; only a judging answers a verdict
 abbrev pub EnteredSo : Entry → Answer → Event → Type 0
-EnteredSo call (Accepted number) e = e ≡ entered call (Ok number)
-EnteredSo call (Refused why) e = e ≡ entered call (Err why)
+EnteredSo call (Entered outcome) e = e ≡ entered call outcome
 EnteredSo call (Judged verdict) e = ⊥
 
 -- a judging with its verdict
 abbrev pub JudgedSo : Setting → Answer → Event → Type 0
-JudgedSo y (Accepted number) e = ⊥
-JudgedSo y (Refused why) e = ⊥
+JudgedSo y (Entered outcome) e = ⊥
 JudgedSo y (Judged verdict) e = e ≡ judged y 1024 (Some (finding_of verdict))
 
 -- over any kind of yard and of rule, by what they mean

@@ -1,9 +1,9 @@
 // The answers of a run.
 use sheet::refusal::EntryRefusal;
 
-// What a judging finds.
-#[derive(Drop)]
-pub enum Verdict {
+// Why a sheet does not pass.
+#[derive(Drop, PartialEq, Eq, Debug)]
+pub enum SheetRefusal {
     // The route of the carrier has not reached its goal.
     NotAtGoal { carrier: u16 },
     // No lane leads to the stop from the one before it.
@@ -14,17 +14,16 @@ pub enum Verdict {
     HeadOn { stop: u16, other: u16 },
     // The stops wait for each other in a ring.
     Ring { stops: Vec<u16> },
-    // The sheet passes, with the earliest arrivals by stop number.
-    Passes { timetable: Vec<u32> },
 }
 
+// What a judging finds: the sheet passes, with the earliest arrivals by stop number, or it is refused.
+pub type Verdict = Result<Vec<u32>, SheetRefusal>;
+
 // The answer to a call.
-#[derive(Drop)]
+#[derive(Drop, PartialEq, Eq, Debug)]
 pub enum Answer {
-    // The entry or the striking is accepted, with this number.
-    Accepted { number: u16 },
-    // The entry or the striking is refused.
-    Refused { refusal: EntryRefusal },
-    // What the judging finds.
+    // What comes of an entry or a striking: it is accepted, with this number, or refused.
+    Entered { outcome: Result<u16, EntryRefusal> },
+    // What a judging finds.
     Judged { verdict: Verdict },
 }

@@ -1,48 +1,45 @@
 // Playing a list of calls.
-ghost use Rattle.std.specs.Prelude.{◌≡◌, IfOk};
+ghost use Rattle.std.specs.Prelude.{IfOk};
 ghost use Rattle.judge.specs.FindingHistories.{Event, Happens};
 ghost use Rattle.sheet.specs.Sheets.{sheet_book};
-ghost use Rattle.play.specs.Runs.{IsEvent, Played, entered_as};
+ghost use Rattle.play.specs.Runs.{IsEvent, Played};
 
 use crate::answers::Answer;
 use crate::calls::Call;
 use crate::verdicts::judge_sheet;
-use sheet::refusal::EntryRefusal;
 use sheet::sheets::Sheet;
 use std::alloc::{AllocError, Global};
 use yard::{FollowingRule, Yard};
 
-// What comes of an entry or a striking.
-fn entered(outcome: Result<u16, EntryRefusal>) -> Answer
-    ensures { result ≡ entered_as outcome }
-{
-    match outcome {
-        Ok(number) => Answer::Accepted { number },
-        Err(refusal) => Answer::Refused { refusal },
-    }
-}
-
-// Makes one call on the sheet.
+// Makes one call on the sheet. The kinds carry different data, so each arm makes its own call.
 fn make_call<Y: Yard, R: FollowingRule>(
     heap: Global,
     sheet: &mut Sheet,
     call: &Call<Y, R>,
 ) -> Result<Answer, AllocError>
-    ensures { IfOk result (λ a. (e : Event) × IsEvent Y.Yard.lanes R.FollowingRule.gaps R.FollowingRule.largest call.now a e × Happens (sheet_book sheet.old) e (sheet_book sheet.new)) }
+    ensures { IfOk result (λ a. (e : Event) × IsEvent Y.Yard.lanes R.FollowingRule.gaps R.FollowingRule.LARGEST_GAP call.now a e × Happens (sheet_book sheet.old) e (sheet_book sheet.new)) }
 {
     match call {
-        Call::EnterCarrier { start, goal } => Ok(entered(sheet.enter_carrier(*start, *goal))),
-        Call::EnterStop { carrier, place } => Ok(entered(sheet.enter_stop(*carrier, *place))),
+        Call::EnterCarrier { start, goal } => Ok(Answer::Entered {
+            outcome: sheet.enter_carrier(*start, *goal),
+        }),
+        Call::EnterStop { carrier, place } => Ok(Answer::Entered {
+            outcome: sheet.enter_stop(*carrier, *place),
+        }),
         Call::EnterPrecedence {
             first,
             second,
             place,
-        } => Ok(entered(sheet.enter_precedence(*first, *second, *place))),
+        } => Ok(Answer::Entered {
+            outcome: sheet.enter_precedence(*first, *second, *place),
+        }),
         Call::StrikePrecedence {
             first,
             second,
             place,
-        } => Ok(entered(sheet.strike_precedence(*first, *second, *place))),
+        } => Ok(Answer::Entered {
+            outcome: sheet.strike_precedence(*first, *second, *place),
+        }),
         Call::Judge { yard, rule } => Ok(Answer::Judged {
             verdict: judge_sheet(heap, sheet, yard, rule)?,
         }),
@@ -54,7 +51,7 @@ pub fn play<Y: Yard, R: FollowingRule>(
     heap: Global,
     calls: &[Call<Y, R>],
 ) -> Result<Vec<Answer>, AllocError>
-    ensures { IfOk result (λ answers. Played Y.Yard.lanes R.FollowingRule.gaps R.FollowingRule.largest calls.now answers.items) }
+    ensures { IfOk result (λ answers. Played Y.Yard.lanes R.FollowingRule.gaps R.FollowingRule.LARGEST_GAP calls.now answers.items) }
 {
     let mut sheet = Sheet::open(heap)?;
     let mut answers = Vec::with_capacity(heap, calls.len())?;

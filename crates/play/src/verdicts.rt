@@ -7,28 +7,29 @@ ghost use Rattle.judge.specs.declared.refusal.JudgeRefusal.TheVariants.{PageTooS
 ghost use Rattle.sheet.specs.Sheets.{sheet_book};
 ghost use Rattle.play.specs.Verdicts.{finding_of};
 
-use crate::answers::Verdict;
+use crate::answers::{SheetRefusal, Verdict};
 use judge::judging::judge;
 use judge::refusal::JudgeRefusal;
 use sheet::sheets::Sheet;
 use std::alloc::{AllocError, Global};
 use yard::{FollowingRule, Yard};
 
-// The verdict of a judging that is refused.
-fn refused_verdict(heap: Global, why: JudgeRefusal, ring: &[u16]) -> Result<Verdict, AllocError>
+// The refusal with the whole ring, of which the judging tells the length.
+// No conversion by `From`: a copy of the ring wants memory and reads the ring page.
+fn whole_refusal(heap: Global, why: JudgeRefusal, ring: &[u16]) -> Result<SheetRefusal, AllocError>
     requires page { why ≢ PageTooShort }
     requires within { Within 0 (length ring.now) (Err why) }
-    ensures { IfOk result (λ v. shown_by [] ring.now (Err why) ≡ Some (finding_of v)) }
+    ensures { IfOk result (λ refusal. shown_by [] ring.now (Err why) ≡ Some (finding_of (Err refusal))) }
 {
     match why {
-        JudgeRefusal::PageTooShort => unreachable(),
-        JudgeRefusal::NotAtGoal { carrier } => Ok(Verdict::NotAtGoal { carrier }),
-        JudgeRefusal::NoLane { stop } => Ok(Verdict::NoLane { stop }),
-        JudgeRefusal::Undecided { stop, later } => Ok(Verdict::Undecided { stop, later }),
-        JudgeRefusal::HeadOn { stop, other } => Ok(Verdict::HeadOn { stop, other }),
+        JudgeRefusal::PageTooShort => unreachable!(),
+        JudgeRefusal::NotAtGoal { carrier } => Ok(SheetRefusal::NotAtGoal { carrier }),
+        JudgeRefusal::NoLane { stop } => Ok(SheetRefusal::NoLane { stop }),
+        JudgeRefusal::Undecided { stop, later } => Ok(SheetRefusal::Undecided { stop, later }),
+        JudgeRefusal::HeadOn { stop, other } => Ok(SheetRefusal::HeadOn { stop, other }),
         JudgeRefusal::Ring { length } => {
-            let stops = Vec::from_slice(heap, &ring[0..length as usize])?;
-            Ok(Verdict::Ring { stops })
+            let stops = Vec::from_slice(heap, &ring[..usize::from(length)])?;
+            Ok(SheetRefusal::Ring { stops })
         }
     }
 }
@@ -40,15 +41,19 @@ pub fn judge_sheet<Y: Yard, R: FollowingRule>(
     yard: &Y,
     rule: &R,
 ) -> Result<Verdict, AllocError>
-    ensures { IfOk result (λ v. Finds (record { lanes = Y.Yard.lanes yard.now; gap = R.FollowingRule.gaps rule.now; largest = R.FollowingRule.largest }) (sheet_book sheet.now) (finding_of v)) }
+    ensures { IfOk result (λ v. Finds (record { lanes = Y.Yard.lanes yard.now; gap = R.FollowingRule.gaps rule.now; largest = R.FollowingRule.LARGEST_GAP }) (sheet_book sheet.now) (finding_of v)) }
 {
+    // Pages for any sheet; judging lends its pages from the caller.
     let mut timetable = [0; 1024];
     let mut ring = [0; 1024];
     match judge(sheet, yard, rule, &mut timetable, &mut ring) {
         Ok(stops) => {
-            let timetable = Vec::from_slice(heap, &timetable[0..stops as usize])?;
-            Ok(Verdict::Passes { timetable })
+            let timetable = Vec::from_slice(heap, &timetable[..usize::from(stops)])?;
+            Ok(Ok(timetable))
         }
-        Err(why) => refused_verdict(heap, why, &ring),
+        Err(why) => {
+            let refusal = whole_refusal(heap, why, &ring)?;
+            Ok(Err(refusal))
+        }
     }
 }

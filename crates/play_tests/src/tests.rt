@@ -5,7 +5,7 @@ use kinds::rules::AnyRule;
 use kinds::yards::AnyYard;
 use lane_yard::lane::Lane;
 use lane_yard::yards::LaneYard;
-use play::answers::{Answer, Verdict};
+use play::answers::{Answer, SheetRefusal};
 use play::calls::Call;
 use play::playing::play;
 use sheet::refusal::EntryRefusal;
@@ -18,15 +18,14 @@ use yard::rules::FixedGap;
 fn yard_of(rt: &impl Abort, heap: Global, lanes: &[(u16, u16, u16)]) -> Result<AnyYard, Fail> {
     let mut yard = LaneYard::new(heap)?;
     let mut list = Vec::new(heap);
-    for lane in lanes {
-        let (from, to, time) = *lane;
+    for &(from, to, time) in lanes {
         list.push(Lane { from, to, time })?;
     }
     assert!(rt; yard.lay(list.as_slice()).is_ok());
     Ok(AnyYard::Lanes { yard })
 }
 
-// The worked yard: lanes both ways, 0-1 of 3 ticks, 1-2 of 2, 1-4 of 5, 2-3 of 4.
+// The worked yard, as a yard of either kind: lanes both ways, 0-1 of 3 ticks, 1-2 of 2, 1-4 of 5, 2-3 of 4.
 fn worked_yard(rt: &impl Abort, heap: Global) -> Result<AnyYard, Fail> {
     yard_of(
         rt,
@@ -70,27 +69,28 @@ fn fixed(rt: &impl Abort, ticks: u16) -> AnyRule {
 }
 
 // A list of calls that is being written.
-type Calls = Vec<Call<AnyYard, AnyRule>>;
+type Calls<Y> = Vec<Call<Y, AnyRule>>;
 
-fn add_carriers(calls: &mut Calls, carriers: &[(u16, u16)]) -> Result<(), Fail> {
-    for carrier in carriers {
-        let (start, goal) = *carrier;
+// One function for each kind of entry: each makes another call from another tuple.
+fn add_carriers<Y: Drop>(calls: &mut Calls<Y>, carriers: &[(u16, u16)]) -> Result<(), Fail> {
+    for &(start, goal) in carriers {
         calls.push(Call::EnterCarrier { start, goal })?;
     }
     Ok(())
 }
 
-fn add_stops(calls: &mut Calls, stops: &[(u8, u16)]) -> Result<(), Fail> {
-    for stop in stops {
-        let (carrier, place) = *stop;
+fn add_stops<Y: Drop>(calls: &mut Calls<Y>, stops: &[(u8, u16)]) -> Result<(), Fail> {
+    for &(carrier, place) in stops {
         calls.push(Call::EnterStop { carrier, place })?;
     }
     Ok(())
 }
 
-fn add_precedences(calls: &mut Calls, precedences: &[(u8, u8, u16)]) -> Result<(), Fail> {
-    for precedence in precedences {
-        let (first, second, place) = *precedence;
+fn add_precedences<Y: Drop>(
+    calls: &mut Calls<Y>,
+    precedences: &[(u8, u8, u16)],
+) -> Result<(), Fail> {
+    for &(first, second, place) in precedences {
         calls.push(Call::EnterPrecedence {
             first,
             second,
@@ -100,85 +100,70 @@ fn add_precedences(calls: &mut Calls, precedences: &[(u8, u8, u16)]) -> Result<(
     Ok(())
 }
 
-fn add_judging(calls: &mut Calls, yard: AnyYard, rule: AnyRule) -> Result<(), Fail> {
+fn add_judging<Y: Drop>(calls: &mut Calls<Y>, yard: Y, rule: AnyRule) -> Result<(), Fail> {
     calls.push(Call::Judge { yard, rule })?;
     Ok(())
 }
 
-// That the answer at the index accepts with this number.
-fn check_accepted(
-    rt: &impl Abort,
-    answers: &Vec<Answer>,
-    index: usize,
-    expected: u16,
-) -> Result<(), Fail> {
-    match answers.get(index) {
-        Some(Answer::Accepted { number }) => {
-            assert_eq!(rt; *number, expected);
-            Ok(())
-        },
-        _ => Err(Fail::new("not accepted")),
+// The answer to an entry or a striking that is accepted with this number.
+fn accepted(number: u16) -> Answer {
+    Answer::Entered {
+        outcome: Ok(number),
     }
 }
 
-// That the answer at the index refuses so.
-fn check_refused(
-    rt: &impl Abort,
-    answers: &Vec<Answer>,
-    index: usize,
-    expected: EntryRefusal,
-) -> Result<(), Fail> {
-    match answers.get(index) {
-        Some(Answer::Refused { refusal }) => {
-            assert_eq!(rt; *refusal, expected);
-            Ok(())
-        },
-        _ => Err(Fail::new("not refused")),
-    }
+// The answer to a judging of a sheet that passes with these arrivals.
+fn passes(heap: Global, arrivals: &[u32]) -> Result<Answer, Fail> {
+    let timetable = Vec::from_slice(heap, arrivals)?;
+    Ok(Answer::Judged {
+        verdict: Ok(timetable),
+    })
 }
 
-// That the answer at the index passes with these arrivals.
-fn check_passes(
-    rt: &impl Abort,
-    answers: &Vec<Answer>,
-    index: usize,
-    arrivals: &[u32],
-) -> Result<(), Fail> {
-    match answers.get(index) {
-        Some(
-            Answer::Judged {
-                verdict: Verdict::Passes { timetable },
-            },
-        ) => {
-            assert_eq!(rt; timetable.as_slice(), arrivals);
-            Ok(())
-        },
-        _ => Err(Fail::new("does not pass")),
+// The answer to a judging of a sheet that is refused so.
+fn refused(refusal: SheetRefusal) -> Answer {
+    Answer::Judged {
+        verdict: Err(refusal),
     }
 }
 
 #[test]
 fn worked_sheet(rt: HostRuntime) -> Result<(), Fail> {
     let heap = rt.alloc();
+    let yard = worked_yard(&rt, heap)?;
     let mut calls = Vec::new(heap);
     add_carriers(&mut calls, &[(0, 3), (2, 4)])?;
     add_stops(&mut calls, &[(0, 1), (0, 2), (0, 3), (1, 1), (1, 4)])?;
     add_precedences(&mut calls, &[(1, 0, 2), (1, 0, 1)])?;
-    add_judging(&mut calls, worked_yard(&rt, heap)?, AnyRule::FullLane)?;
-    add_judging(&mut calls, worked_yard(&rt, heap)?, AnyRule::LaneLessOne)?;
-    add_judging(&mut calls, worked_yard(&rt, heap)?, fixed(&rt, 0))?;
-    add_judging(&mut calls, worked_yard(&rt, heap)?, fixed(&rt, 1))?;
+    add_judging(&mut calls, &yard, AnyRule::FullLane)?;
+    add_judging(&mut calls, &yard, AnyRule::LaneLessOne)?;
+    add_judging(&mut calls, &yard, fixed(&rt, 0))?;
+    add_judging(&mut calls, &yard, fixed(&rt, 1))?;
     add_precedences(&mut calls, &[(0, 1, 2)])?;
     let answers = play(heap, calls.as_slice())?;
     assert_eq!(rt; answers.len(), 14);
-    for (i, number) in [0, 1, 2, 3, 4, 5, 6, 1, 2].iter().enumerate() {
-        check_accepted(&rt, &answers, i, *number)?;
+    for (answer, number) in answers.iter().zip([0, 1, 2, 3, 4, 5, 6, 1, 2]) {
+        assert_eq!(rt; *answer, accepted(number));
     }
-    check_passes(&rt, &answers, 9, &[0, 0, 8, 10, 14, 2, 7])?;
-    check_passes(&rt, &answers, 10, &[0, 0, 7, 9, 13, 2, 7])?;
-    check_passes(&rt, &answers, 11, &[0, 0, 3, 5, 9, 2, 7])?;
-    check_passes(&rt, &answers, 12, &[0, 0, 4, 6, 10, 2, 7])?;
-    check_refused(&rt, &answers, 13, EntryRefusal::FirstsGoalOrSecondsStart)
+    assert_eq!(rt;
+        answers.get(9),
+        Some(&passes(heap, &[0, 0, 8, 10, 14, 2, 7])?)
+    );
+    assert_eq!(rt;
+        answers.get(10),
+        Some(&passes(heap, &[0, 0, 7, 9, 13, 2, 7])?)
+    );
+    assert_eq!(rt;
+        answers.get(11),
+        Some(&passes(heap, &[0, 0, 3, 5, 9, 2, 7])?)
+    );
+    assert_eq!(rt;
+        answers.get(12),
+        Some(&passes(heap, &[0, 0, 4, 6, 10, 2, 7])?)
+    );
+    let outcome = Err(EntryRefusal::FirstsGoalOrSecondsStart);
+    assert_eq!(rt; answers.get(13), Some(&Answer::Entered { outcome }));
+    Ok(())
 }
 
 #[test]
@@ -200,39 +185,16 @@ fn worked_sheet_turned(rt: HostRuntime) -> Result<(), Fail> {
     })?;
     let answers = play(heap, calls.as_slice())?;
     assert_eq!(rt; answers.len(), 14);
-    match answers.get(2) {
-        Some(
-            Answer::Judged {
-                verdict: Verdict::NotAtGoal { carrier },
-            },
-        ) => assert_eq!(rt; *carrier, 0),
-        _ => return Err(Fail::new("carrier 0 is not home")),
-    }
-    match answers.get(9) {
-        Some(
-            Answer::Judged {
-                verdict: Verdict::Undecided { stop, later },
-            },
-        ) => assert_eq!(rt; (*stop, *later), (2, 5)),
-        _ => return Err(Fail::new("a meeting is undecided")),
-    }
-    match answers.get(11) {
-        Some(
-            Answer::Judged {
-                verdict: Verdict::HeadOn { stop, other },
-            },
-        ) => assert_eq!(rt; (*stop, *other), (1, 2)),
-        _ => return Err(Fail::new("two stops are head on")),
-    }
-    match answers.get(12) {
-        Some(
-            Answer::Judged {
-                verdict: Verdict::NoLane { stop },
-            },
-        ) => assert_eq!(rt; *stop, 4),
-        _ => return Err(Fail::new("the grid has no place 3")),
-    }
-    check_accepted(&rt, &answers, 13, 1)
+    let not_at_goal = refused(SheetRefusal::NotAtGoal { carrier: 0 });
+    assert_eq!(rt; answers.get(2), Some(&not_at_goal));
+    let undecided = refused(SheetRefusal::Undecided { stop: 2, later: 5 });
+    assert_eq!(rt; answers.get(9), Some(&undecided));
+    let head_on = refused(SheetRefusal::HeadOn { stop: 1, other: 2 });
+    assert_eq!(rt; answers.get(11), Some(&head_on));
+    let no_lane = refused(SheetRefusal::NoLane { stop: 4 });
+    assert_eq!(rt; answers.get(12), Some(&no_lane));
+    assert_eq!(rt; answers.get(13), Some(&accepted(1)));
+    Ok(())
 }
 
 #[test]
@@ -246,14 +208,11 @@ fn triangle_and_empty_sheet(rt: HostRuntime) -> Result<(), Fail> {
     add_judging(&mut calls, triangle(&rt, heap)?, AnyRule::FullLane)?;
     add_judging(&mut calls, triangle(&rt, heap)?, AnyRule::LaneLessOne)?;
     let answers = play(heap, calls.as_slice())?;
-    check_passes(&rt, &answers, 0, &[])?;
-    match answers.get(10) {
-        Some(
-            Answer::Judged {
-                verdict: Verdict::Ring { stops },
-            },
-        ) => assert_eq!(rt; stops.as_slice(), [3, 5, 4].as_slice()),
-        _ => return Err(Fail::new("there is a ring")),
-    }
-    check_passes(&rt, &answers, 11, &[0, 0, 0, 1, 1, 1])
+    assert_eq!(rt; answers.get(0), Some(&passes(heap, &[])?));
+    let ring = SheetRefusal::Ring {
+        stops: Vec::from_slice(heap, &[3, 5, 4])?,
+    };
+    assert_eq!(rt; answers.get(10), Some(&refused(ring)));
+    assert_eq!(rt; answers.get(11), Some(&passes(heap, &[0, 0, 0, 1, 1, 1])?));
+    Ok(())
 }

@@ -1,12 +1,12 @@
 -- What a judging finds in a book, by tests.
-use Rattle.std.proofs.Common.{◌≡◌, ℕ, zero, suc, ◌-◌, ◌*◌, ◌<◌, ◌≤◌, max, Bool, true, false, cond, not, ◌&&◌, ◌||◌, T, eqb, ltb, leb, List, [], ◌∷◌, map, length, get_or, ℤ, pos, ◌+ℤ◌, Some, None, Option, sym, refl, ◌∙◌, subst, inl, inr, ⊎_elim, le_trans, mul-le-mul_left, arith}
+use Rattle.std.proofs.Common.{◌≡◌, ℕ, zero, suc, ◌-◌, ◌*◌, ◌<◌, ◌≤◌, ◌↔◌, max, Bool, true, false, cond, not, ◌&&◌, ◌||◌, T, eqb, ltb, leb, List, [], ◌∷◌, map, length, get_or, ℤ, pos, ◌+ℤ◌, Some, None, Option, sym, refl, ◌∙◌, subst, ⊎_elim, le_trans, mul-le-mul_left, arith, rules}
 use mathlib.Core.Path.{subst₃}
 use native.Mathlib.Nat.{le-max_left}
 use lib.Signed.{le_z, lt_z}
-use Rattle.std.specs.List.{slice_get}
+use Rattle.std.specs.List.{slice_get, Contains, list_any, list_all}
 use Rattle.std.proofs.iter.runs.Lists.{none-some, same_Some}
-use Rattle.std.proofs.lemmas.Bool.{and_parts, or_cases, not-true, eqb-true, eqb-false, leb-true}
-use Rattle.std.proofs.lemmas.Bool.Decides.{Decides-eqb, Decides-and, Decides-ltb}
+use Rattle.std.proofs.lemmas.Bool.Decides.{nat_tests}
+use Rattle.std.proofs.lemmas.Bool.{and_parts, or_cases, eqb-true, leb-true}
 use Rattle.lags.specs.declared.Lag.{Lag as LagRecord}
 use Rattle.lags.specs.Solved.{Listed}
 use Rattle.lags.specs.Ways.{Way, Ring, Solution}
@@ -15,19 +15,19 @@ use Rattle.sheet.specs.Book.{BookStop, Book, Visits}
 use Rattle.plan.specs.Lags.{Lag}
 use Rattle.plan.specs.Plans.{Opposed}
 use Rattle.plan.specs.Theorems.{Positive, FromZero, LagsDecideIn}
-use Rattle.plan.proofs.Heart.{decide_in}
+use Rattle.plan.proofs.Decided.{decide_in}
 use Rattle.judge.specs.Findings.{Setting, undecided, head_on, in_a_ring, passes, Finds}
 use Rattle.judge.specs.Judged.{UndecidedAt}
-use Rattle.worked.proofs.Lists.{In, in_has, has_in, Exactly, any?, all?, each_passes, decides_some, numbered, exactly_numbered, pairs, exactly_pairs}
-use Rattle.worked.proofs.Steps.{AStop, IsStop, IsLag, visits, exactly_visits, open_meetings, exactly_open, opposed, exactly_opposed, lags, exactly_lags}
+use Rattle.worked.proofs.Lists.{Contains-here, Contains-later, Exactly, each_passes, decides_some, numbered, exactly_numbered, pairs, exactly_pairs}
+use Rattle.worked.proofs.Steps.{AStop, IsStop, IsLag, decided_numbers, visits, exactly_visits, open_meetings, exactly_open, opposed, exactly_opposed, lags, exactly_lags}
 use Rattle.worked.proofs.Tests.{home?, home, on_lanes?, on_lanes, whole?, whole, lowest?, lowest}
 use Rattle.worked.proofs.Rounds.{rounds, rounds_under}
 
 -- every number of a list is at most n
-under_all : (n : ℕ) (times : List ℕ) → all? (λ (t : ℕ). leb t n) times ≡ true → (s : ℕ) → get_or times s 0 ≤ n
+under_all : (n : ℕ) (times : List ℕ) → list_all (λ (t : ℕ). leb t n) times ≡ true → (s : ℕ) → get_or times s 0 ≤ n
 under_all n [] h s = omega arith
-under_all n (t ∷ ts) h zero = leb-true t n (and_parts (leb t n) (all? (λ (x : ℕ). leb x n) ts) h).0
-under_all n (t ∷ ts) h (suc s) = under_all n ts (and_parts (leb t n) (all? (λ (x : ℕ). leb x n) ts) h).1 s
+under_all n (t ∷ ts) h zero = leb-true _ _ (and_parts _ _ h).0
+under_all n (t ∷ ts) h (suc s) = under_all n ts (and_parts _ _ h).1 s
 
 zeros_under : (β : ℕ → ℕ) (xs : List BookStop) (v : ℕ) → get_or (map (λ (x : BookStop). 0) xs) v 0 ≤ β v
 zeros_under β [] v = omega arith
@@ -54,17 +54,17 @@ along gs s [] r = weight_between gs s r
 along gs s (t ∷ ts) r = sum (weight_between gs s t) (along gs t ts r)
 
 module _ (Between : ℕ → ℕ → ℤ → Type 0) where
-  between : (gs : List LagRecord) → ((g : LagRecord) → In g gs → Between g.from g.to g.weight) → (s t : ℕ) (w : ℤ) → weight_between gs s t ≡ Some w → Between s t w
+  between : (gs : List LagRecord) → ((g : LagRecord) → Contains gs g → Between g.from g.to g.weight) → (s t : ℕ) (w : ℤ) → weight_between gs s t ≡ Some w → Between s t w
   between [] each s t w e = absurd (none-some w e)
-  between (g ∷ gs) each s t w e = go (between gs (λ h k. each h (inr k)) s t w) (joins s t g) refl e
+  between (g ∷ gs) each s t w e = go (between gs (λ h k. each h (Contains-later g gs h k)) s t w) (joins s t g) refl e
     where
       go : (weight_between gs s t ≡ Some w → Between s t w) → (v : Bool) → joins s t g ≡ v → cond v (Some g.weight) (weight_between gs s t) ≡ Some w → Between s t w
       go later true h q =
-          let p = and_parts (eqb g.from s) (eqb g.to t) h in
-          subst₃ Between (eqb-true g.from s p.0) (eqb-true g.to t p.1) (same_Some g.weight w q) (each g (inl refl))
+          let p = and_parts _ _ h in
+          subst₃ Between (eqb-true _ _ p.0) (eqb-true _ _ p.1) (same_Some g.weight w q) (each g (Contains-here g gs))
       go later false h q = later q
 
-  way : (gs : List LagRecord) → ((g : LagRecord) → In g gs → Between g.from g.to g.weight) → (s : ℕ) (ts : List ℕ) (r : ℕ) (w : ℤ) → along gs s ts r ≡ Some w → Way Between s (s ∷ ts) r w
+  way : (gs : List LagRecord) → ((g : LagRecord) → Contains gs g → Between g.from g.to g.weight) → (s : ℕ) (ts : List ℕ) (r : ℕ) (w : ℤ) → along gs s ts r ≡ Some w → Way Between s (s ∷ ts) r w
   way gs each s [] r w e = last (between gs each s r w e)
   way gs each s (t ∷ ts) r w e = go (weight_between gs s t) (along gs t ts r) (between gs each s t) (way gs each t ts r) e
     where
@@ -78,41 +78,39 @@ abbrev apart? : (ℕ × ℕ) × (ℕ × ℕ) → Bool
 apart? p = not (eqb p.0.1 p.1.1) || eqb p.0.0 p.1.0
 
 abbrev ring? : ℕ → List ℕ → Bool
-ring? from l = all? apart? (pairs (numbered l) (numbered l)) && all? (λ (p : ℕ × ℕ). leb from p.1) (numbered l)
+ring? from l = list_all apart? (pairs (numbered l) (numbered l)) && list_all (λ (p : ℕ × ℕ). leb from p.1) (numbered l)
 
 a_ring : (Between : ℕ → ℕ → ℤ → Type 0) (from : ℕ) (ts : List ℕ) (w : ℤ) → Way Between from (from ∷ ts) from w → lt_z (pos 0) w ≡ true → ring? from (from ∷ ts) ≡ true → Ring Between (from ∷ ts)
 a_ring Between from ts w round above h =
     let l = from ∷ ts in
     let At : ℕ × ℕ → Type 0 = λ p. slice_get l p.0 ≡ Some p.1 in
-    let p = and_parts (all? apart? (pairs (numbered l) (numbered l))) (all? (λ (q : ℕ × ℕ). leb from q.1) (numbered l)) h in
+    let p = and_parts _ _ h in
     record {
       from = from;
       sum = w;
       round = round;
       above = record { lt = subst T (sym above) tt };
       distinct = λ i j s at there.
-          ⊎_elim
-          (λ e. absurd (eqb-false s s (not-true (eqb s s) e) refl))
-          (λ e. eqb-true i j e)
-          (or_cases (not (eqb s s)) (eqb i j) (each_passes (λ (q : (ℕ × ℕ) × (ℕ × ℕ)). At q.0 × At q.1) (pairs (numbered l) (numbered l)) apart? (exactly_pairs At At (numbered l) (numbered l) (exactly_numbered l) (exactly_numbered l)) p.0 ((i, s), (j, s)) (at, there)));
-      lowest_first = λ i s at. leb-true from s (each_passes At (numbered l) (λ q. leb from q.1) (exactly_numbered l) p.1 (i, s) at);
+          let passes = each_passes (λ (q : (ℕ × ℕ) × (ℕ × ℕ)). At q.0 × At q.1) (pairs (numbered l) (numbered l)) apart? (exactly_pairs At At (numbered l) (numbered l) (exactly_numbered l) (exactly_numbered l)) p.0 ((i, s), (j, s)) (at, there) in
+          grind (arith, nat_tests);
+      lowest_first = λ i s at. leb-true _ _ (each_passes At (numbered l) (λ q. leb from q.1) (exactly_numbered l) p.1 (i, s) at);
     }
 
 -- nothing is in an empty list of pairs
 none_in : (P : ℕ → ℕ → Type 0) (xs : List (ℕ × ℕ)) → Exactly (λ (n : ℕ × ℕ). P n.0 n.1) xs → xs ≡ [] → (s t : ℕ) → P s t → ⊥
-none_in P xs l e s t p = subst (λ ys. In (s, t) ys) e (l.every (s, t) p)
+none_in P xs l e s t p = let at = subst (λ ys. Contains ys (s, t)) e (l.every (s, t) p) in absurd (omega (arith, at.1))
 
 module _ (y : Setting) (b : Book) where
   abbrev all_lags : List LagRecord
   all_lags = lags b y.lanes y.gap
 
   -- the lags are those listed
-  pub the_lags : (gs : List LagRecord) → all_lags ≡ gs → (s t : ℕ) (w : ℤ) → (Lag y.lanes y.gap b s t w → Listed gs s t w) × (Listed gs s t w → Lag y.lanes y.gap b s t w)
+  pub the_lags : (gs : List LagRecord) → all_lags ≡ gs → (s t : ℕ) (w : ℤ) → Lag y.lanes y.gap b s t w ↔ Listed gs s t w
   the_lags gs e s t w =
       let g : LagRecord = record { from = s; to = t; weight = w } in
       let l = exactly_lags b y.lanes y.gap in (
-        λ lag. subst (λ hs. Listed hs s t w) e (in_has all_lags g (l.every g lag)),
-        λ h. l.each g (has_in all_lags g (subst (λ hs. Listed hs s t w) (sym e) h)),
+        λ lag. subst (λ hs. Listed hs s t w) e (l.every g lag),
+        λ h. l.each g (subst (λ hs. Listed hs s t w) (sym e) h),
       )
 
   -- a way along them
@@ -125,7 +123,7 @@ module _ (y : Setting) (b : Book) where
 
   -- they keep every lag
   abbrev kept? : List ℕ → Bool
-  kept? times = all? (λ (g : LagRecord). le_z (pos (get_or times g.from 0) +ℤ g.weight) (pos (get_or times g.to 0))) all_lags
+  kept? times = list_all (λ (g : LagRecord). le_z (pos (get_or times g.from 0) +ℤ g.weight) (pos (get_or times g.to 0))) all_lags
 
   pub kept : (times : List ℕ) → kept? times ≡ true → Solution (Lag y.lanes y.gap b) (λ s. get_or times s 0)
   kept times h s t w lag =
@@ -137,16 +135,16 @@ module _ (y : Setting) (b : Book) where
   earlier? p r = ltb r.0 p.0 && eqb r.1.carrier p.1.carrier
 
   abbrev from_zero? : List ℕ → Bool
-  from_zero? times = all? (λ (p : AStop). eqb (get_or times p.0 0) 0 || any? (earlier? p) (visits b)) (visits b)
+  from_zero? times = list_all (λ (p : AStop). eqb (get_or times p.0 0) 0 || list_any (earlier? p) (visits b)) (visits b)
 
   from_zero : (times : List ℕ) → from_zero? times ≡ true → FromZero b (λ s. get_or times s 0)
   from_zero times h c s u at =
       let p : AStop = (s, record { carrier = c; place = u }) in
       ⊎_elim
-      (λ e. eqb-true (get_or times s 0) 0 e)
-      (λ e. let r = (decides_some (IsStop b) (λ (q : AStop). (q.0 < s) × (q.1.carrier ≡ c)) (visits b) (earlier? p) (exactly_visits b) (λ q. Decides-and _ _ (Decides-ltb q.0 s) (Decides-eqb q.1.carrier c))).0 e in
+      (λ e. eqb-true _ _ e)
+      (λ e. let r = (decides_some (IsStop b) (λ (q : AStop). (q.0 < s) × (q.1.carrier ≡ c)) (visits b) (earlier? p) (exactly_visits b) (λ q. search (rules, decided_numbers))).0 e in
       absurd (at.first r.0.0 r.0.1.place r.2.0 (subst (λ (z : ℕ). Visits b r.0.0 z r.0.1.place) r.2.1 r.1)))
-      (or_cases (eqb (get_or times s 0) 0) (any? (earlier? p) (visits b)) (each_passes (IsStop b) (visits b) (λ q. eqb (get_or times q.0 0) 0 || any? (earlier? q) (visits b)) (exactly_visits b) h p at.here))
+      (or_cases _ _ (each_passes (IsStop b) (visits b) (λ q. eqb (get_or times q.0 0) 0 || list_any (earlier? q) (visits b)) (exactly_visits b) h p at.here))
 
   -- a ceiling whatever the rule's largest gap is
   abbrev top : ℕ
@@ -157,12 +155,12 @@ module _ (y : Setting) (b : Book) where
 
   -- one arrival for each stop, none above the ceiling, each lag kept, and 0 at each start
   abbrev pub fits? : List ℕ → Bool
-  fits? times = (eqb (length times) (length b.stops) && all? (λ (t : ℕ). leb t top) times) && (kept? times && from_zero? times)
+  fits? times = (eqb (length times) (length b.stops) && list_all (λ (t : ℕ). leb t top) times) && (kept? times && from_zero? times)
 
   -- two stops are undecided
   pub finds_undecided : (s t : ℕ) → (home? y.lanes b && on_lanes? y.lanes b) ≡ true → lowest? (open_meetings b) s t ≡ true → Finds y b (undecided s t)
   finds_undecided s t h l =
-      let p = and_parts (home? y.lanes b) (on_lanes? y.lanes b) h in (
+      let p = and_parts _ _ h in (
         λ c a. a.not_reached (home y.lanes b p.0 c a.goal a.its_goal),
         λ q o. let d = on_lanes y.lanes b p.1 o.c o.s o.u q o.v o.step in none-some d.0 (sym o.no_lane ∙ d.1),
         lowest (UndecidedAt b) (open_meetings b) (exactly_open b) s t l,
@@ -192,12 +190,12 @@ module _ (y : Setting) (b : Book) where
       pub finds_passes : (times : List ℕ) → times_of ≡ times → fits? times ≡ true → Finds y b (passes times)
       finds_passes times e h =
           let complete = (whole y.lanes b tested).0 in
-          let p = and_parts (eqb (length times) (length b.stops) && all? (λ (t : ℕ). leb t top) times) (kept? times && from_zero? times) h in
-          let q = and_parts (eqb (length times) (length b.stops)) (all? (λ (t : ℕ). leb t top) times) p.0 in
-          let r = and_parts (kept? times) (from_zero? times) p.1 in (
+          let p = and_parts _ _ h in
+          let q = and_parts _ _ p.0 in
+          let r = and_parts _ _ p.1 in (
             complete,
             record {
-              one_each = eqb-true (length times) (length b.stops) q.0;
+              one_each = eqb-true _ _ q.0;
               earliest = record {
                 good = decides.kept_good complete none_opposed (λ s. get_or times s 0) (from_zero times r.1) (kept times r.0);
                 least = λ β good s l.

@@ -1,17 +1,17 @@
 -- What a book answers to a call, worked out by tests, and the book that the call leaves.
-use Rattle.std.proofs.Common.{◌≡◌, ℕ, ◌≤◌, Bool, true, false, cond, not, ◌&&◌, ◌||◌, eqb, ltb, leb, List, [], ◌∷◌, length, Some, None, Ok, Err, Decides, Option, refl, ap, ◌∙◌, inl, inr, ⊎_elim}
-use Rattle.std.specs.List.{slice_get}
+use Rattle.std.proofs.Common.{◌≡◌, ℕ, ◌≤◌, Bool, true, false, cond, not, ◌&&◌, ◌||◌, eqb, ltb, leb, List, [], ◌∷◌, length, Some, None, Ok, Err, Decides, Option, refl, ap, ◌∙◌, ⊎_elim, arith, rules}
+use Rattle.std.specs.List.{slice_get, list_any}
 use Rattle.std.proofs.iter.runs.Lists.{none-some, same_Some}
-use Rattle.std.proofs.lemmas.Bool.{leb-true, le-leb, false≢true, cases_Bool}
-use Rattle.std.proofs.lemmas.Bool.Decides.{Decides-eqb, Decides-ltb, Decides-not, Decides-and, Decides-or, Decides-like, not_from_Decides}
+use Rattle.std.proofs.lemmas.Bool.{false≢true, cases_Bool}
+use Rattle.std.proofs.lemmas.Bool.Decides.{Decides-eqb, Decides-ltb, Decides-not, Decides-or, Decides-like, not_from_Decides, nat_tests}
 use Rattle.sheet.specs.declared.refusal.EntryRefusal.{EntryRefusal}
 use Rattle.sheet.specs.declared.refusal.EntryRefusal.TheVariants.{LimitReached, NoCarrier, EndTaken, RouteAtGoal, PlaceTooHigh, PlaceOnRoute, SameCarrier, NotOnBothRoutes, FirstsGoalOrSecondsStart, AlreadyDecided, NothingToStrike}
 use Rattle.sheet.specs.Book.{BookCarrier, BookStop, BookPrecedence, Book, StartOf, GoalOf, OnRoute, ReachedGoal, Decided}
 use Rattle.sheet.specs.Calls.{Call, enter_carrier, enter_stop, enter_precedence, strike_precedence, Answer, StartTaken, GoalTaken, Standing, Checks, no_more, check, checks, Refuses, Accepts, number, Answers, with_carrier, with_stop, with_precedence, without_precedence, Changes, Leaves}
-use Rattle.worked.proofs.Lists.{numbered, exactly_numbered, any?, decides_some, number_at, stands_at}
+use Rattle.worked.proofs.Lists.{numbered, exactly_numbered, decides_some, number_at, stands_at}
 
 pub decides_leb : (a b : ℕ) → Decides (leb a b) (a ≤ b)
-decides_leb a b = (leb-true a b, le-leb a b)
+decides_leb a b = grind (arith, nat_tests)
 
 -- a test of what stands at a number, if anything does
 abbrev at? : {A : Type 0} → (A → Bool) → Option A → Bool
@@ -30,26 +30,18 @@ abbrev is_precedence : ℕ → ℕ → ℕ → BookPrecedence → Bool
 is_precedence first second u x = eqb x.first first && (eqb x.second second && eqb x.place u)
 
 decides_stop : (c u : ℕ) (x : BookStop) → Decides (is_stop c u x) (x ≡ record { carrier = c; place = u })
-decides_stop c u x =
-    Decides-like (is_stop c u x)
-    (λ p. λ i. record { carrier = p.0 i; place = p.1 i })
-    (λ e. (ap (λ (z : BookStop). z.carrier) e, ap (λ (z : BookStop). z.place) e))
-    (Decides-and (eqb x.carrier c) (eqb x.place u) (Decides-eqb x.carrier c) (Decides-eqb x.place u))
+decides_stop c u x = grind (arith, nat_tests)
 
 decides_precedence : (first second u : ℕ) (x : BookPrecedence) → Decides (is_precedence first second u x) (x ≡ record { first = first; second = second; place = u })
-decides_precedence first second u x =
-    Decides-like (is_precedence first second u x)
-    (λ p. λ i. record { first = p.0 i; second = p.1.0 i; place = p.1.1 i })
-    (λ e. (ap (λ (z : BookPrecedence). z.first) e, (ap (λ (z : BookPrecedence). z.second) e, ap (λ (z : BookPrecedence). z.place) e)))
-    (Decides-and (eqb x.first first) (eqb x.second second && eqb x.place u) (Decides-eqb x.first first) (Decides-and (eqb x.second second) (eqb x.place u) (Decides-eqb x.second second) (Decides-eqb x.place u)))
+decides_precedence first second u x = grind (arith, nat_tests)
 
 -- something that passes a test stands in a list
 abbrev somewhere? : {A : Type 0} → (A → Bool) → List A → Bool
-somewhere? {A} t xs = any? {A = ℕ × A} (λ p. t p.1) (numbered xs)
+somewhere? {A} t xs = list_any {X = ℕ × A} (λ p. t p.1) (numbered xs)
 
 decides_somewhere : {A : Type 0} (t : A → Bool) (Q : A → Type 0) → ((x : A) → Decides (t x) (Q x)) → (xs : List A) → Decides (somewhere? t xs) ((k : ℕ) × (x : A) × (slice_get xs k ≡ Some x) × Q x)
 decides_somewhere {A} t Q d xs =
-    Decides-like (somewhere? t xs)
+    Decides-like _
     (λ r. (r.0.0, r.0.1, r.1, r.2))
     (λ r. ((r.0, r.1), r.2, r.3))
     (decides_some (λ (p : ℕ × A). slice_get xs p.0 ≡ Some p.1) (λ (p : ℕ × A). Q p.1) (numbered xs) (λ p. t p.1) (exactly_numbered xs) (λ p. d p.1))
@@ -57,7 +49,7 @@ decides_somewhere {A} t Q d xs =
 -- something equal to a value does
 decides_standing_value : {A : Type 0} (t : A → Bool) (v : A) → ((x : A) → Decides (t x) (x ≡ v)) → (xs : List A) → Decides (somewhere? t xs) ((k : ℕ) × (slice_get xs k ≡ Some v))
 decides_standing_value {A} t v d xs =
-    Decides-like (somewhere? t xs) (λ r. (r.0, r.2 ∙ ap Some r.3)) (λ r. (r.0, v, r.1, refl)) (decides_somewhere t (λ x. x ≡ v) d xs)
+    Decides-like _ (λ r. (r.0, r.2 ∙ ap Some r.3)) (λ r. (r.0, v, r.1, refl)) (decides_somewhere t (λ x. x ≡ v) d xs)
 
 module _ (b : Book) where
   abbrev pub on_route? : ℕ → ℕ → Bool
@@ -77,10 +69,10 @@ module _ (b : Book) where
 
   pub decides_decided : (c e u : ℕ) → Decides (decided? c e u) (Decided b c e u)
   decides_decided c e u =
-      Decides-like (decided? c e u)
-      (λ h. ⊎_elim (λ s. (s.0, inl s.1)) (λ s. (s.0, inr s.1)) h)
-      (λ r. ⊎_elim (λ s. inl (r.0, s)) (λ s. inr (r.0, s)) r.1)
-      (Decides-or (standing? c e u) (standing? e c u) (decides_standing c e u) (decides_standing e c u))
+      Decides-like _
+      (λ h. search rules)
+      (λ r. search rules)
+      (Decides-or _ _ (decides_standing c e u) (decides_standing e c u))
 
   abbrev start? : ℕ → BookCarrier → Bool
   start? u x = eqb x.start u
@@ -93,9 +85,9 @@ module _ (b : Book) where
 
   decides_start_of : (c u : ℕ) → Decides (start_of? c u) (StartOf b c u)
   decides_start_of c u =
-      Decides-like (start_of? c u)
-      (λ r. (r.0.goal, r.1 ∙ ap (λ w. Some (record { start = w; goal = r.0.goal })) r.2))
-      (λ r. (record { start = u; goal = r.0 }, r.1, refl))
+      Decides-like _
+      (λ r. (r.0.goal, rw (← r.2) r.1))
+      (λ r. search rules)
       (decides_at? (start? u) (λ (x : BookCarrier). x.start ≡ u) (λ x. Decides-eqb x.start u) (slice_get b.carriers c))
 
   abbrev goal_of? : ℕ → ℕ → Bool
@@ -103,9 +95,9 @@ module _ (b : Book) where
 
   decides_goal_of : (c v : ℕ) → Decides (goal_of? c v) (GoalOf b c v)
   decides_goal_of c v =
-      Decides-like (goal_of? c v)
-      (λ r. (r.0.start, r.1 ∙ ap (λ w. Some (record { start = r.0.start; goal = w })) r.2))
-      (λ r. (record { start = r.0; goal = v }, r.1, refl))
+      Decides-like _
+      (λ r. (r.0.start, rw (← r.2) r.1))
+      (λ r. search rules)
       (decides_at? (goal? v) (λ (x : BookCarrier). x.goal ≡ v) (λ x. Decides-eqb x.goal v) (slice_get b.carriers c))
 
   abbrev start_taken? : ℕ → Bool
@@ -113,9 +105,9 @@ module _ (b : Book) where
 
   decides_start_taken : (u : ℕ) → Decides (start_taken? u) (StartTaken b u)
   decides_start_taken u =
-      Decides-like (start_taken? u)
-      (λ r. (r.0, (r.1.goal, r.2 ∙ ap (λ w. Some (record { start = w; goal = r.1.goal })) r.3)))
-      (λ r. (r.0, record { start = u; goal = r.1.0 }, r.1.1, refl))
+      Decides-like _
+      (λ r. (r.0, (r.1.goal, rw (← r.3) r.2)))
+      (λ r. search rules)
       (decides_somewhere (start? u) (λ (x : BookCarrier). x.start ≡ u) (λ x. Decides-eqb x.start u) b.carriers)
 
   abbrev goal_taken? : ℕ → Bool
@@ -123,9 +115,9 @@ module _ (b : Book) where
 
   decides_goal_taken : (v : ℕ) → Decides (goal_taken? v) (GoalTaken b v)
   decides_goal_taken v =
-      Decides-like (goal_taken? v)
-      (λ r. (r.0, (r.1.start, r.2 ∙ ap (λ w. Some (record { start = r.1.start; goal = w })) r.3)))
-      (λ r. (r.0, record { start = r.1.0; goal = v }, r.1.1, refl))
+      Decides-like _
+      (λ r. (r.0, (r.1.start, rw (← r.3) r.2)))
+      (λ r. search rules)
       (decides_somewhere (goal? v) (λ (x : BookCarrier). x.goal ≡ v) (λ x. Decides-eqb x.goal v) b.carriers)
 
   abbrev reached_goal? : ℕ → Bool
@@ -133,9 +125,9 @@ module _ (b : Book) where
 
   decides_reached_goal : (c : ℕ) → Decides (reached_goal? c) (ReachedGoal b c)
   decides_reached_goal c =
-      Decides-like (reached_goal? c)
+      Decides-like _
       (λ r. (r.0.goal, (r.0.start, r.1), r.2))
-      (λ r. (record { start = r.1.0; goal = r.0 }, r.1.1, r.2))
+      (λ r. search rules)
       (decides_at? (λ (x : BookCarrier). on_route? c x.goal) (λ (x : BookCarrier). OnRoute b c x.goal) (λ x. decides_on_route c x.goal) (slice_get b.carriers c))
 
   abbrev unknown? : ℕ → Bool
@@ -188,12 +180,12 @@ by_tests (t ∷ ts) n = cond t.0 (Err t.1) (by_tests ts n)
 
 -- a check that does not apply leaves the answer to the others
 pass_on : (n : ℕ) (Applies : Type 0) (its_own : EntryRefusal) (cs : Checks) → (Applies → ⊥) → (a : Answer) → ByChecks n cs a → ByChecks n (check Applies its_own cs) a
-pass_on n Applies its_own cs never (Ok m) k = ((never, k.0), k.1)
-pass_on n Applies its_own cs never (Err r) k = inr (never, k)
+pass_on n Applies its_own cs never (Ok m) k = search rules
+pass_on n Applies its_own cs never (Err r) k = search rules
 
 one_check : (n : ℕ) (Applies : Type 0) (its_own : EntryRefusal) (cs : Checks) (v : Bool) (r : EntryRefusal) (a : Answer) → Decides v Applies → r ≡ its_own → ByChecks n cs a → ByChecks n (check Applies its_own cs) (cond v (Err r) a)
-one_check n Applies its_own cs true r a d e k = inl (d.0 refl, e)
-one_check n Applies its_own cs false r a d e k = pass_on n Applies its_own cs (not_from_Decides false d refl) a k
+one_check n Applies its_own cs true r a d e k = search rules
+one_check n Applies its_own cs false r a d e k = search (rules, pass_on)
 
 by_checks : (n : ℕ) (cs : Checks) (ts : List (Bool × EntryRefusal)) → Tested cs ts → ByChecks n cs (by_tests ts n)
 by_checks n no_more [] h = (tt, refl)
@@ -201,80 +193,15 @@ by_checks n no_more (t ∷ ts) h = absurd h
 by_checks n (check Applies its_own cs) [] h = absurd h
 by_checks n (check Applies its_own cs) (t ∷ ts) h = one_check n Applies its_own cs t.0 t.1 (by_tests ts n) h.0 h.1 (by_checks n cs ts h.2)
 
+-- each test says when its check applies
+ruleset decided_tests = (Decides-or, Decides-not, Decides-eqb, Decides-ltb, decides_leb, decides_on_route, decides_standing, decides_decided, decides_start_of, decides_goal_of, decides_start_taken, decides_goal_taken, decides_reached_goal)
+
 module _ (b : Book) where
   tested : (call : Call) → Tested (checks b call) (tests b call)
-  tested (enter_carrier start goal) = (
-    Decides-or (ltb 4095 start) (ltb 4095 goal) (Decides-ltb 4095 start) (Decides-ltb 4095 goal),
-    refl,
-    (
-      Decides-or (leb 64 (length b.carriers)) (leb 1024 (length b.stops)) (decides_leb 64 (length b.carriers)) (decides_leb 1024 (length b.stops)),
-      refl,
-      (
-        Decides-or (start_taken? b start) (goal_taken? b goal) (decides_start_taken b start) (decides_goal_taken b goal),
-        refl,
-        tt,
-      ),
-    ),
-  )
-  tested (enter_stop c u) = (
-    decides_leb (length b.carriers) c,
-    refl,
-    (
-      Decides-ltb 4095 u,
-      refl,
-      (
-        decides_reached_goal b c,
-        refl,
-        (
-          decides_on_route b c u,
-          refl,
-          (
-            decides_leb 1024 (length b.stops),
-            refl,
-            tt,
-          ),
-        ),
-      ),
-    ),
-  )
-  tested (enter_precedence first second u) = (
-    Decides-or (unknown? b first) (unknown? b second) (decides_leb (length b.carriers) first) (decides_leb (length b.carriers) second),
-    refl,
-    (
-      Decides-eqb first second,
-      refl,
-      (
-        Decides-or (not (on_route? b first u)) (not (on_route? b second u)) (Decides-not (on_route? b first u) (decides_on_route b first u)) (Decides-not (on_route? b second u) (decides_on_route b second u)),
-        refl,
-        (
-          Decides-or (goal_of? b first u) (start_of? b second u) (decides_goal_of b first u) (decides_start_of b second u),
-          refl,
-          (
-            decides_decided b first second u,
-            refl,
-            (
-              decides_leb 2048 (length b.precedences),
-              refl,
-              tt,
-            ),
-          ),
-        ),
-      ),
-    ),
-  )
-  tested (strike_precedence first second u) = (
-    Decides-or (unknown? b first) (unknown? b second) (decides_leb (length b.carriers) first) (decides_leb (length b.carriers) second),
-    refl,
-    (
-      Decides-eqb first second,
-      refl,
-      (
-        Decides-not (standing? b first second u) (decides_standing b first second u),
-        refl,
-        tt,
-      ),
-    ),
-  )
+  tested (enter_carrier start goal) = search (rules, decided_tests)
+  tested (enter_stop c u) = search (rules, decided_tests)
+  tested (enter_precedence first second u) = search (rules, decided_tests)
+  tested (strike_precedence first second u) = search (rules, decided_tests)
 
   -- what the book answers
   abbrev pub answer : Call → Answer

@@ -1,5 +1,5 @@
 -- The worked examples come out.
-use Rattle.std.proofs.Common.{ℕ, ◌≤◌, Bool, cond, [], ◌∷◌, pos, negsuc, Some, Ok, Err, refl, ap, inl, inr, arith, lit<, lit≤}
+use Rattle.std.proofs.Common.{ℕ, ◌≤◌, Bool, cond, [], ◌∷◌, pos, negsuc, Some, Ok, Err, refl, ap, arith, rules, lit<, lit≤}
 use Rattle.std.proofs.lemmas.Bool.{le-ltb}
 use Rattle.lane_yard.specs.declared.refusal.LayRefusal.TheVariants.{BadLane, NotRising}
 use Rattle.lane_yard.specs.Records.{lane}
@@ -9,50 +9,39 @@ use Rattle.sheet.specs.Calls.{enter_carrier, enter_stop}
 use Rattle.sheet.specs.Histories.{History, opening, ◌▹◌}
 use Rattle.plan.specs.Plans.{Gaps, Leg, head_on as meet_head_on}
 use Rattle.plan.specs.Theorems.{Positive}
-use Rattle.judge.specs.Findings.{Setting, Finds, undecided, head_on, in_a_ring, passes}
+use Rattle.judge.specs.Findings.{Setting, passes}
 use Rattle.judge.specs.FindingHistories.{Event, entered, judged, Lawful}
-use Rattle.worked.specs.Examples.{under, full_lane, lane_less_one, fixed_gap, PLanes, P, S, SStruck, STurned, judges_S, turns_S, LagsOfS, HeadOnApart, triangle_lanes, Triangle, judges_triangle, triangle_sheet, judges_one, one_sheet, first_calls, first_sheet, grid, LittleGrid, TwoRows, ListsOfLanes, Examples}
+use Rattle.worked.specs.Examples.{under, full_lane, lane_less_one, fixed_gap, lanes_of_P, P, S, S_struck, S_turned, judges_S, turns_S, LagsOfS, HeadOnApart, triangle_lanes, triangle, judges_triangle, triangle_sheet, judges_one, one_sheet, first_calls, first_sheet, grid, LittleGrid, TwoRows, ListsOfLanes, Examples}
 use Rattle.worked.proofs.Steps.{exactly_legs}
 use Rattle.worked.proofs.Entries.{left}
 use Rattle.worked.proofs.Histories.{Conclusions, lawful}
 use Rattle.worked.proofs.Conclusions.{the_lags, a_way, kept, finds_undecided, finds_head_on, finds_ring, finds_passes}
 use Rattle.worked.proofs.Yards as yards
 
-PPositive : Positive P
-PPositive = yards.positive PLanes refl
+P_positive : Positive P
+P_positive = yards.positive lanes_of_P refl
 
-triangle_positive : Positive Triangle
+triangle_positive : Positive triangle
 triangle_positive = yards.positive triangle_lanes refl
 
 -- the sheet S under the four rules
-passes_full_lane : Finds (full_lane P) S (passes (0 ∷ 0 ∷ 8 ∷ 10 ∷ 14 ∷ 2 ∷ 7 ∷ []))
-passes_full_lane = finds_passes (full_lane P) S PPositive refl refl _ refl refl
-
-passes_lane_less_one : Finds (lane_less_one P) S (passes (0 ∷ 0 ∷ 7 ∷ 9 ∷ 13 ∷ 2 ∷ 7 ∷ []))
-passes_lane_less_one = finds_passes (lane_less_one P) S PPositive refl refl _ refl refl
-
-passes_gap_0 : Finds (fixed_gap 0 P) S (passes (0 ∷ 0 ∷ 3 ∷ 5 ∷ 9 ∷ 2 ∷ 7 ∷ []))
-passes_gap_0 = finds_passes (fixed_gap 0 P) S PPositive refl refl _ refl refl
-
-passes_gap_1 : Finds (fixed_gap 1 P) S (passes (0 ∷ 0 ∷ 4 ∷ 6 ∷ 10 ∷ 2 ∷ 7 ∷ []))
-passes_gap_1 = finds_passes (fixed_gap 1 P) S PPositive refl refl _ refl refl
-
-SPasses : Conclusions judges_S
-SPasses = ((((tt, (lit≤ tt, passes_full_lane)), (lit≤ tt, passes_lane_less_one)), (lit≤ tt, passes_gap_0)), (lit≤ tt, passes_gap_1))
+S_passes : Conclusions judges_S
+S_passes =
+    let full = finds_passes (full_lane P) S P_positive refl refl _ refl refl in
+    let less_one = finds_passes (lane_less_one P) S P_positive refl refl _ refl refl in
+    let gap_0 = finds_passes (fixed_gap 0 P) S P_positive refl refl _ refl refl in
+    let gap_1 = finds_passes (fixed_gap 1 P) S P_positive refl refl _ refl refl in
+    ((((tt, (lit≤ tt, full)), (lit≤ tt, less_one)), (lit≤ tt, gap_0)), (lit≤ tt, gap_1))
 
 -- and with its second precedence struck and turned, under every rule
-module _ (gap : Gaps) (largest : ℕ) where
-  SUndecided : Finds (under gap largest P) SStruck (undecided 2 5)
-  SUndecided = finds_undecided (under gap largest P) SStruck 2 5 refl refl
+S_judged : (gap : Gaps) (largest : ℕ) → Lawful (turns_S gap largest) S_turned
+S_judged gap largest =
+    let y = under gap largest P in
+    lawful (turns_S gap largest) S_turned refl refl
+    ((S_passes, (lit≤ tt, finds_undecided y S_struck 2 5 refl refl)), (lit≤ tt, finds_head_on y S_turned P_positive refl 1 2 refl))
 
-  SHeadOn : Finds (under gap largest P) STurned (head_on 1 2)
-  SHeadOn = finds_head_on (under gap largest P) STurned PPositive refl 1 2 refl
-
-  SJudged : Lawful (turns_S gap largest) STurned
-  SJudged = lawful (turns_S gap largest) STurned refl refl ((SPasses, (lit≤ tt, SUndecided)), (lit≤ tt, SHeadOn))
-
-SLags : LagsOfS
-SLags = record {
+S_lags : LagsOfS
+S_lags = record {
   by_full_lane = the_lags (full_lane P) S _ refl;
   by_lane_less_one = the_lags (lane_less_one P) S _ refl;
   by_gap_0 = the_lags (fixed_gap 0 P) S _ refl;
@@ -60,30 +49,27 @@ SLags = record {
 }
 
 -- carrier 0's leg from place 1 to place 2, and carrier 1's back
-there : Leg P STurned 0 2 1 3 2 2
-there = (exactly_legs STurned P).each (record { c = 0; s = 2; u = 1; t = 3; v = 2 }, 2) (inr (inr (inl refl)))
+there : Leg P S_turned 0 2 1 3 2 2
+there = (exactly_legs S_turned P).each (record { c = 0; s = 2; u = 1; t = 3; v = 2 }, 2) (2, lit< tt, refl)
 
-back : Leg P STurned 1 1 2 5 1 2
-back = (exactly_legs STurned P).each (record { c = 1; s = 1; u = 2; t = 5; v = 1 }, 2) (inr (inl refl))
+back : Leg P S_turned 1 1 2 5 1 2
+back = (exactly_legs S_turned P).each (record { c = 1; s = 1; u = 2; t = 5; v = 1 }, 2) (1, lit< tt, refl)
 
 head_on_apart : HeadOnApart
 head_on_apart = record {
-  sum_full_lane = a_way (full_lane P) STurned 3 (5 ∷ []) 3 (pos 2) refl;
-  sum_lane_less_one = a_way (lane_less_one P) STurned 3 (5 ∷ []) 3 (pos 0) refl;
-  sum_fixed_gap_0 = a_way (fixed_gap 0 P) STurned 3 (5 ∷ []) 3 (negsuc 1) refl;
-  sum_fixed_gap_1 = a_way (fixed_gap 1 P) STurned 3 (5 ∷ []) 3 (pos 0) refl;
-  kept = kept (lane_less_one P) STurned (0 ∷ 0 ∷ 3 ∷ 5 ∷ 9 ∷ 5 ∷ 10 ∷ []) refl;
+  sum_full_lane = a_way (full_lane P) S_turned 3 (5 ∷ []) 3 (pos 2) refl;
+  sum_lane_less_one = a_way (lane_less_one P) S_turned 3 (5 ∷ []) 3 (pos 0) refl;
+  sum_fixed_gap_0 = a_way (fixed_gap 0 P) S_turned 3 (5 ∷ []) 3 (negsuc 1) refl;
+  sum_fixed_gap_1 = a_way (fixed_gap 1 P) S_turned 3 (5 ∷ []) 3 (pos 0) refl;
+  kept = kept (lane_less_one P) S_turned (0 ∷ 0 ∷ 3 ∷ 5 ∷ 9 ∷ 5 ∷ 10 ∷ []) refl;
   conflict = meet_head_on 0 1 2 1 3 2 2 1 5 2 4 (λ e. omega arith) there back (lit< tt) (lit≤ tt) (lit< tt) (lit≤ tt);
 }
 
-triangle_ring : Finds (full_lane Triangle) triangle_sheet (in_a_ring (3 ∷ 5 ∷ 4 ∷ []))
-triangle_ring = finds_ring (full_lane Triangle) triangle_sheet triangle_positive refl refl 3 (5 ∷ 4 ∷ []) (pos 3) refl refl refl
-
-triangle_passes : Finds (lane_less_one Triangle) triangle_sheet (passes (0 ∷ 0 ∷ 0 ∷ 1 ∷ 1 ∷ 1 ∷ []))
-triangle_passes = finds_passes (lane_less_one Triangle) triangle_sheet triangle_positive refl refl _ refl refl
-
 triangle_judged : Lawful judges_triangle triangle_sheet
-triangle_judged = lawful judges_triangle triangle_sheet refl refl ((tt, (lit≤ tt, triangle_ring)), (lit≤ tt, triangle_passes))
+triangle_judged =
+    let ring = finds_ring (full_lane triangle) triangle_sheet triangle_positive refl refl 3 (5 ∷ 4 ∷ []) (pos 3) refl refl refl in
+    let passes = finds_passes (lane_less_one triangle) triangle_sheet triangle_positive refl refl _ refl refl in
+    lawful judges_triangle triangle_sheet refl refl ((tt, (lit≤ tt, ring)), (lit≤ tt, passes))
 
 module _ (y : Setting) (positive : Positive y.lanes) where
   nobody : Lawful (opening ▹ judged y 0 (Some (passes []))) opened
@@ -104,19 +90,19 @@ firsts = lawful first_calls first_sheet refl refl tt
 
 little_grid : LittleGrid
 little_grid = record {
-  lawful = ((lit≤ tt, lit≤ tt, lit≤ tt, lit≤ tt), (lit≤ tt, lit≤ tt, lit≤ tt, lit≤ tt), lit≤ tt);
+  lawful = search rules;
   there = refl;
   back = refl;
   on = refl;
   back_again = refl;
   not_past = refl;
-  closed_lawful = ((lit≤ tt, lit≤ tt, lit≤ tt, lit≤ tt), (lit≤ tt, lit≤ tt, lit≤ tt, lit≤ tt), lit≤ tt);
+  closed_lawful = search rules;
   closed_none = yards.laneless (grid 1 3 2 1) (2 ∷ []) refl;
 }
 
 two_rows : TwoRows
 two_rows = record {
-  lawful = ((lit≤ tt, lit≤ tt, lit≤ tt, lit≤ tt), (lit≤ tt, lit≤ tt, lit≤ tt, lit≤ tt), lit≤ tt);
+  lawful = search rules;
   along = refl;
   across = refl;
   across_back = refl;
@@ -141,16 +127,16 @@ lists_of_lanes = record {
 pub examples : Examples
 examples = record {
   lists_of_lanes = lists_of_lanes;
-  PLaid = yards.lawful PLanes refl;
+  P_laid = yards.lawful lanes_of_P refl;
   triangle_laid = yards.lawful triangle_lanes refl;
-  SJudged = SJudged;
-  SLags = SLags;
-  SHeadOn = head_on_apart;
+  S_judged = S_judged;
+  S_lags = S_lags;
+  S_head_on = head_on_apart;
   triangle_judged = triangle_judged;
-  lags_full_lane = the_lags (full_lane Triangle) triangle_sheet _ refl;
-  lags_lane_less_one = the_lags (lane_less_one Triangle) triangle_sheet _ refl;
-  ring_sum_full_lane = a_way (full_lane Triangle) triangle_sheet 3 (5 ∷ 4 ∷ []) 3 (pos 3) refl;
-  ring_sum_lane_less_one = a_way (lane_less_one Triangle) triangle_sheet 3 (5 ∷ 4 ∷ []) 3 (pos 0) refl;
+  lags_full_lane = the_lags (full_lane triangle) triangle_sheet _ refl;
+  lags_lane_less_one = the_lags (lane_less_one triangle) triangle_sheet _ refl;
+  ring_sum_full_lane = a_way (full_lane triangle) triangle_sheet 3 (5 ∷ 4 ∷ []) 3 (pos 3) refl;
+  ring_sum_lane_less_one = a_way (lane_less_one triangle) triangle_sheet 3 (5 ∷ 4 ∷ []) 3 (pos 0) refl;
   nobody = nobody;
   one_that_stays = λ y u positive h. one_that_stays y positive u h;
   firsts = firsts;

@@ -1,20 +1,18 @@
 -- The arrivals that rounds over the lags give, each lag in turn raising its end, are at no stop later than any that keep the lags.
-use Rattle.std.proofs.Common.{ℕ, zero, suc, ◌≤◌, max, List, [], ◌∷◌, get_or, set, ℤ, pos, negsuc, ◌+ℤ◌, ◌≤ℤ◌, refl, inl, inr, arith}
+use Rattle.std.proofs.Common.{ℕ, zero, suc, ◌≤◌, max, List, [], ◌∷◌, get_or, set, ℤ, pos, negsuc, ◌+ℤ◌, ◌≤ℤ◌, arith}
+use Rattle.std.specs.List.{Contains}
+use Rattle.std.proofs.lemmas.Grind.{common_steps}
 use Rattle.std.proofs.lemmas.Int.{ints}
 use Rattle.lags.specs.declared.Lag.{Lag}
 use Rattle.lags.specs.Times.{after}
-use Rattle.worked.proofs.Lists.{In}
+use Rattle.worked.proofs.Lists.{Contains-here, Contains-later}
 
 -- no arrival is later
 abbrev pub Under : (ℕ → ℕ) → List ℕ → Type 0
 Under β times = (v : ℕ) → get_or times v 0 ≤ β v
 
 set_under : (β : ℕ → ℕ) (times : List ℕ) (i a : ℕ) → a ≤ β i → Under β times → Under β (set times i a)
-set_under β [] i a h k v = omega arith
-set_under β (x ∷ xs) zero a h k zero = h
-set_under β (x ∷ xs) zero a h k (suc v) = k (suc v)
-set_under β (x ∷ xs) (suc i) a h k zero = k zero
-set_under β (x ∷ xs) (suc i) a h k (suc v) = set_under (λ w. β (suc w)) xs i a h (λ w. k (suc w)) v
+set_under β times i a h k v = grind (arith, common_steps, k v)
 
 after_under : (x w_from w_to : ℕ) (w : ℤ) → x ≤ w_from → (pos w_from +ℤ w) ≤ℤ pos w_to → after x w ≤ w_to
 after_under x f t (pos n) h k = omega (arith, ints)
@@ -42,10 +40,10 @@ module _ (β : ℕ → ℕ) where
       let there = after_under (get_or times g.from 0) (β g.from) (β g.to) g.weight (under g.from) k in
       set_under β times g.to (max (get_or times g.to 0) (after (get_or times g.from 0) g.weight)) (omega arith) under
 
-  round_under : (gs : List Lag) (times : List ℕ) → ((g : Lag) → In g gs → Keeps g) → Under β times → Under β (round gs times)
+  round_under : (gs : List Lag) (times : List ℕ) → ((g : Lag) → Contains gs g → Keeps g) → Under β times → Under β (round gs times)
   round_under [] times k under = under
-  round_under (g ∷ gs) times k under = round_under gs (raised times g) (λ h l. k h (inr l)) (raised_under times g (k g (inl refl)) under)
+  round_under (g ∷ gs) times k under = round_under gs (raised times g) (λ h l. k h (Contains-later g gs h l)) (raised_under times g (k g (Contains-here g gs)) under)
 
-  pub rounds_under : (n : ℕ) (gs : List Lag) (times : List ℕ) → ((g : Lag) → In g gs → Keeps g) → Under β times → Under β (rounds n gs times)
+  pub rounds_under : (n : ℕ) (gs : List Lag) (times : List ℕ) → ((g : Lag) → Contains gs g → Keeps g) → Under β times → Under β (rounds n gs times)
   rounds_under zero gs times k under = under
   rounds_under (suc n) gs times k under = rounds_under n gs (round gs times) k (round_under gs times k under)

@@ -1,5 +1,6 @@
 -- Exactly the steps, the legs, the lags, the open meetings and the opposed stops of a book, listed.
-use Rattle.std.proofs.Common.{◌≡◌, ℕ, ◌+◌, ◌<◌, Bool, not, ◌&&◌, eqb, ltb, ◌≢◌, ◌⊎◌, List, ◌++◌, ℤ, pos, ◌-ℤ◌, Some, None, Decides, Option, refl, ap, ◌∙◌, subst, subst₂, inl, inr}
+use Rattle.std.proofs.Common.{◌≡◌, ℕ, ◌+◌, ◌<◌, Bool, not, ◌&&◌, eqb, ltb, ◌≢◌, ◌⊎◌, List, ◌++◌, ℤ, pos, ◌-ℤ◌, Some, None, Decides, Option, refl, ap, ◌∙◌, subst, subst₂, inl, inr, rules}
+use Rattle.std.specs.List.{list_any, filter_map}
 use Rattle.std.proofs.iter.runs.Lists.{none-some, same_Some}
 use Rattle.std.proofs.lemmas.Bool.Decides.{Decides-eqb, Decides-ltb, Decides-not, Decides-and}
 use Rattle.lags.specs.declared.Lag.{Lag as LagRecord}
@@ -8,7 +9,7 @@ use Rattle.sheet.specs.Calls.{Standing}
 use Rattle.plan.specs.Lags.{Lag, travel, wait}
 use Rattle.plan.specs.Plans.{Lanes, Gaps, Leg, Opposed}
 use Rattle.judge.specs.Judged.{UndecidedAt}
-use Rattle.worked.proofs.Lists.{Exactly, exactly_append, any?, decides_some, numbered, exactly_numbered, pairs, exactly_pairs, sift, exactly_sift, only, only_each, only_every}
+use Rattle.worked.proofs.Lists.{Exactly, exactly_append, decides_some, numbered, exactly_numbered, pairs, exactly_pairs, exactly_filter_map, only, only_each, only_every}
 use Rattle.worked.proofs.Entries.{decided?, decides_decided, standing?, decides_standing}
 
 -- a step of carrier c from stop s at u to stop t at v
@@ -28,6 +29,9 @@ APrecedence = ℕ × BookPrecedence
 
 abbrev pub ALeg : Type 0
 ALeg = Step × ℕ
+
+-- tests of numbers say what they test
+pub ruleset decided_numbers = (Decides-and, Decides-not, Decides-eqb, Decides-ltb)
 
 module _ (b : Book) where
   abbrev pub IsStop : AStop → Type 0
@@ -62,18 +66,15 @@ module _ (b : Book) where
   comes_between? p q r = ltb p.0 r.0 && (ltb r.0 q.0 && eqb r.1.carrier p.1.carrier)
 
   abbrev between? : AStop → AStop → Bool
-  between? p q = any? (comes_between? p q) visits
+  between? p q = list_any (comes_between? p q) visits
 
   abbrev next? : AStop → AStop → Bool
   next? p q = eqb q.1.carrier p.1.carrier && (ltb p.0 q.0 && not (between? p q))
 
   decides_next : (p q : AStop) → Decides (next? p q) ((q.1.carrier ≡ p.1.carrier) × ((p.0 < q.0) × ((r : AStop) × IsStop r × ComesBetween p q r → ⊥)))
   decides_next p q =
-      Decides-and _ _ (Decides-eqb q.1.carrier p.1.carrier)
-      (Decides-and _ _ (Decides-ltb p.0 q.0)
-      (Decides-not (between? p q)
-      (decides_some IsStop (ComesBetween p q) visits (comes_between? p q) exactly_visits
-      (λ r. Decides-and _ _ (Decides-ltb p.0 r.0) (Decides-and _ _ (Decides-ltb r.0 q.0) (Decides-eqb r.1.carrier p.1.carrier))))))
+      let between = decides_some IsStop (ComesBetween p q) visits (comes_between? p q) exactly_visits (λ r. search (rules, decided_numbers)) in
+      search (rules, decided_numbers, between)
 
   abbrev step_between : AStop × AStop → Step
   step_between p = record { c = p.0.1.carrier; s = p.0.0; u = p.0.1.place; t = p.1.0; v = p.1.1.place }
@@ -85,11 +86,11 @@ module _ (b : Book) where
   IsStep z = Next b z.c z.s z.u z.t z.v
 
   abbrev pub steps : List Step
-  steps = sift a_step (pairs visits visits)
+  steps = filter_map a_step (pairs visits visits)
 
   pub exactly_steps : Exactly IsStep steps
   exactly_steps =
-      exactly_sift TwoStops IsStep a_step (pairs visits visits) exactly_two
+      exactly_filter_map TwoStops IsStep a_step (pairs visits visits) exactly_two
       (λ p z at e.
       let o = only_each (next? p.0 p.1) (step_between p) z e in
       let d = (decides_next p.0 p.1).0 o.0 in
@@ -121,21 +122,17 @@ module _ (b : Book) where
   open? p = not (eqb p.0.1.carrier p.1.1.carrier) && (eqb p.1.1.place p.0.1.place && (ltb p.0.0 p.1.0 && not (decided? b p.0.1.carrier p.1.1.carrier p.0.1.place)))
 
   decides_open : (p : AStop × AStop) → Decides (open? p) (Open p)
-  decides_open p =
-      Decides-and _ _ (Decides-not _ (Decides-eqb p.0.1.carrier p.1.1.carrier))
-      (Decides-and _ _ (Decides-eqb p.1.1.place p.0.1.place)
-      (Decides-and _ _ (Decides-ltb p.0.0 p.1.0)
-      (Decides-not _ (decides_decided b p.0.1.carrier p.1.1.carrier p.0.1.place))))
+  decides_open p = search (rules, decided_numbers, decides_decided)
 
   abbrev numbers : AStop × AStop → ℕ × ℕ
   numbers p = (p.0.0, p.1.0)
 
   abbrev pub open_meetings : List (ℕ × ℕ)
-  open_meetings = sift (λ p. only (open? p) (numbers p)) (pairs visits visits)
+  open_meetings = filter_map (λ p. only (open? p) (numbers p)) (pairs visits visits)
 
   pub exactly_open : Exactly (λ (n : ℕ × ℕ). UndecidedAt b n.0 n.1) open_meetings
   exactly_open =
-      exactly_sift TwoStops (λ (n : ℕ × ℕ). UndecidedAt b n.0 n.1) (λ p. only (open? p) (numbers p)) (pairs visits visits) exactly_two
+      exactly_filter_map TwoStops (λ (n : ℕ × ℕ). UndecidedAt b n.0 n.1) (λ p. only (open? p) (numbers p)) (pairs visits visits) exactly_two
       (λ p n at e.
       let o = only_each (open? p) (numbers p) n e in
       let d = (decides_open p).0 o.0 in
@@ -166,11 +163,11 @@ module _ (b : Book) where
     timed_each z (Some d) l e = let q = same_Some _ l e in (ap (λ (m : ALeg). m.0) q, ap (λ (m : ALeg). Some m.1) q)
 
     abbrev pub legs : List ALeg
-    legs = sift (λ z. timed z (lanes z.u z.v)) steps
+    legs = filter_map (λ z. timed z (lanes z.u z.v)) steps
 
     pub exactly_legs : Exactly IsLeg legs
     exactly_legs =
-        exactly_sift IsStep IsLeg (λ z. timed z (lanes z.u z.v)) steps exactly_steps
+        exactly_filter_map IsStep IsLeg (λ z. timed z (lanes z.u z.v)) steps exactly_steps
         (λ z l n e.
         let q = timed_each z (lanes z.u z.v) l e in
         subst (λ (m : Step). IsLeg (m, l.1)) q.0 (record { next = n; lane = q.1 }))
@@ -184,20 +181,17 @@ module _ (b : Book) where
     facing? p = eqb p.1.0.v p.0.0.u && (eqb p.1.0.u p.0.0.v && (standing? b p.0.0.c p.1.0.c p.0.0.u && standing? b p.1.0.c p.0.0.c p.0.0.v))
 
     decides_facing : (p : ALeg × ALeg) → Decides (facing? p) (Facing p)
-    decides_facing p =
-        Decides-and _ _ (Decides-eqb p.1.0.v p.0.0.u)
-        (Decides-and _ _ (Decides-eqb p.1.0.u p.0.0.v)
-        (Decides-and _ _ (decides_standing b p.0.0.c p.1.0.c p.0.0.u) (decides_standing b p.1.0.c p.0.0.c p.0.0.v)))
+    decides_facing p = search (rules, decided_numbers, decides_standing)
 
     abbrev froms : ALeg × ALeg → ℕ × ℕ
     froms p = (p.0.0.s, p.1.0.s)
 
     abbrev pub opposed : List (ℕ × ℕ)
-    opposed = sift (λ p. only (facing? p) (froms p)) (pairs legs legs)
+    opposed = filter_map (λ p. only (facing? p) (froms p)) (pairs legs legs)
 
     pub exactly_opposed : Exactly (λ (n : ℕ × ℕ). Opposed lanes b n.0 n.1) opposed
     exactly_opposed =
-        exactly_sift (λ (p : ALeg × ALeg). IsLeg p.0 × IsLeg p.1) (λ (n : ℕ × ℕ). Opposed lanes b n.0 n.1) (λ p. only (facing? p) (froms p)) (pairs legs legs) (exactly_pairs IsLeg IsLeg legs legs exactly_legs exactly_legs)
+        exactly_filter_map (λ (p : ALeg × ALeg). IsLeg p.0 × IsLeg p.1) (λ (n : ℕ × ℕ). Opposed lanes b n.0 n.1) (λ p. only (facing? p) (froms p)) (pairs legs legs) (exactly_pairs IsLeg IsLeg legs legs exactly_legs exactly_legs)
         (λ p n at e.
         let o = only_each (facing? p) (froms p) n e in
         let d = (decides_facing p).0 o.0 in
@@ -239,10 +233,7 @@ module _ (b : Book) where
       waits? m = eqb m.0.1.first m.1.0.0.c && (eqb m.0.1.second m.1.1.1.carrier && (eqb m.0.1.place m.1.0.0.u && eqb m.1.1.1.place m.1.0.0.u))
 
       decides_waits : (m : Meeting) → Decides (waits? m) (Waits m)
-      decides_waits m =
-          Decides-and _ _ (Decides-eqb m.0.1.first m.1.0.0.c)
-          (Decides-and _ _ (Decides-eqb m.0.1.second m.1.1.1.carrier)
-          (Decides-and _ _ (Decides-eqb m.0.1.place m.1.0.0.u) (Decides-eqb m.1.1.1.place m.1.0.0.u)))
+      decides_waits m = search (rules, decided_numbers)
 
       abbrev lag_of : Meeting → LagRecord
       lag_of m = record { from = m.1.0.0.t; to = m.1.1.0; weight = pos (gap m.1.0.0.u m.1.0.0.v m.1.0.1 + 1) -ℤ pos m.1.0.1 }
@@ -255,7 +246,7 @@ module _ (b : Book) where
 
       -- the travel lags, then the waiting lags
       abbrev pub lags : List LagRecord
-      lags = sift travel_lag legs ++ sift wait_lag meetings
+      lags = filter_map travel_lag legs ++ filter_map wait_lag meetings
 
       abbrev FromLeg : LagRecord → Type 0
       FromLeg g = (l : ALeg) × IsLeg l × (travel_lag l ≡ Some g)
@@ -282,7 +273,7 @@ module _ (b : Book) where
 
       pub exactly_lags : Exactly IsLag lags
       exactly_lags =
-          exactly_append FromLeg FromMeeting IsLag (sift travel_lag legs) (sift wait_lag meetings)
-          (exactly_sift IsLeg FromLeg travel_lag legs exactly_legs (λ l g at e. (l, at, e)) (λ g f. f))
-          (exactly_sift AreThere FromMeeting wait_lag meetings (exactly_pairs IsPrecedence (λ (q : ALeg × AStop). IsLeg q.0 × IsStop q.1) standing (pairs legs visits) exactly_standing (exactly_pairs IsLeg IsStop legs visits exactly_legs exactly_visits)) (λ m g at e. (m, at, e)) (λ g f. f))
+          exactly_append FromLeg FromMeeting IsLag (filter_map travel_lag legs) (filter_map wait_lag meetings)
+          (exactly_filter_map IsLeg FromLeg travel_lag legs exactly_legs (λ l g at e. (l, at, e)) (λ g f. f))
+          (exactly_filter_map AreThere FromMeeting wait_lag meetings (exactly_pairs IsPrecedence (λ (q : ALeg × AStop). IsLeg q.0 × IsStop q.1) standing (pairs legs visits) exactly_standing (exactly_pairs IsLeg IsStop legs visits exactly_legs exactly_visits)) (λ m g at e. (m, at, e)) (λ g f. f))
           from_leg from_meeting (λ g k. listed k)

@@ -1,16 +1,16 @@
 -- Tests of a whole book: that it is complete and orderly, and what is lowest in a list of pairs.
-use Rattle.std.proofs.Common.{◌≡◌, ℕ, ◌<◌, ◌≤◌, Bool, true, not, ◌&&◌, ◌||◌, eqb, ltb, leb, ◌≢◌, List, is_some, Some, None, Decides, Option, refl, subst₂, ⊎_elim, arith}
+use Rattle.std.proofs.Common.{◌≡◌, ℕ, Bool, true, not, ◌&&◌, ◌||◌, eqb, ltb, leb, ◌≢◌, List, is_some, Some, None, Decides, Option, refl, subst₂, arith, rules}
 use mathlib.Core.Path.{subst₃}
-use Rattle.std.specs.List.{slice_get}
-use Rattle.std.proofs.lemmas.Bool.{and_parts, or_cases, not-true, eqb-true, eqb-false, leb-true, ltb-true, false≢true, both_ways}
-use Rattle.std.proofs.lemmas.Bool.Decides.{Decides-eqb, Decides-and}
+use Rattle.std.specs.List.{slice_get, list_any, list_all}
+use Rattle.std.proofs.lemmas.Bool.{and_parts, false≢true}
+use Rattle.std.proofs.lemmas.Bool.Decides.{nat_tests}
 use Rattle.sheet.specs.Book.{BookCarrier, Book, Visits, Stands, GoalOf, Decided, Next}
 use Rattle.plan.specs.Plans.{Lanes, Leg, Complete}
 use Rattle.plan.specs.Theorems.{Orderly}
 use Rattle.judge.specs.Lowest.{LowestPair}
-use Rattle.worked.proofs.Lists.{Exactly, any?, all?, each_passes, decides_some, numbered, exactly_numbered, pairs, exactly_pairs}
+use Rattle.worked.proofs.Lists.{Exactly, each_passes, decides_some, numbered, exactly_numbered, pairs, exactly_pairs}
 use Rattle.worked.proofs.Entries.{on_route?, decides_on_route, decided?, decides_decided}
-use Rattle.worked.proofs.Steps.{AStop, APrecedence, ALeg, Step, IsStop, IsPrecedence, IsStep, IsLeg, visits, exactly_visits, standing, exactly_standing, TwoStops, exactly_two, steps, exactly_steps, legs, exactly_legs}
+use Rattle.worked.proofs.Steps.{AStop, APrecedence, ALeg, Step, IsStop, IsPrecedence, IsStep, IsLeg, decided_numbers, visits, exactly_visits, standing, exactly_standing, TwoStops, exactly_two, steps, exactly_steps, legs, exactly_legs}
 
 some_there : (o : Option ℕ) → is_some o ≡ true → (d : ℕ) × (o ≡ Some d)
 some_there None h = absurd (false≢true h)
@@ -19,7 +19,7 @@ some_there (Some d) h = (d, refl)
 module _ (lanes : Lanes) (b : Book) where
   -- every route has reached its goal
   abbrev pub home? : Bool
-  home? = all? (λ (k : ℕ × BookCarrier). on_route? b k.0 k.1.goal) (numbered b.carriers)
+  home? = list_all (λ (k : ℕ × BookCarrier). on_route? b k.0 k.1.goal) (numbered b.carriers)
 
   pub home : home? ≡ true → (c v : ℕ) → GoalOf b c v → (s : ℕ) × Visits b s c v
   home h c v g =
@@ -28,7 +28,7 @@ module _ (lanes : Lanes) (b : Book) where
 
   -- every step is a lane
   abbrev pub on_lanes? : Bool
-  on_lanes? = all? (λ (z : Step). is_some (lanes z.u z.v)) (steps b)
+  on_lanes? = list_all (λ (z : Step). is_some (lanes z.u z.v)) (steps b)
 
   pub on_lanes : on_lanes? ≡ true → (c s u t v : ℕ) → Next b c s u t v → (d : ℕ) × (lanes u v ≡ Some d)
   on_lanes h c s u t v n =
@@ -40,31 +40,26 @@ module _ (lanes : Lanes) (b : Book) where
   settled? p = eqb p.0.1.carrier p.1.1.carrier || (not (eqb p.0.1.place p.1.1.place) || decided? b p.0.1.carrier p.1.1.carrier p.0.1.place)
 
   abbrev all_decided? : Bool
-  all_decided? = all? settled? (pairs (visits b) (visits b))
+  all_decided? = list_all settled? (pairs (visits b) (visits b))
 
   all_decided : all_decided? ≡ true → (c e s r u : ℕ) → c ≢ e → Visits b s c u → Visits b r e u → Decided b c e u
   all_decided h c e s r u other here there =
       let p : AStop × AStop = ((s, record { carrier = c; place = u }), (r, record { carrier = e; place = u })) in
-      ⊎_elim
-      (λ same. absurd (other (eqb-true c e same)))
-      (λ rest. ⊎_elim
-      (λ away. absurd (eqb-false u u (not-true (eqb u u) away) refl))
-      (λ d. (decides_decided b c e u).0 d)
-      (or_cases (not (eqb u u)) (decided? b c e u) rest))
-      (or_cases (eqb c e) (not (eqb u u) || decided? b c e u) (each_passes (TwoStops b) (pairs (visits b) (visits b)) settled? (exactly_two b) h p (here, there)))
+      let passes = each_passes (TwoStops b) (pairs (visits b) (visits b)) settled? (exactly_two b) h p (here, there) in
+      (decides_decided b c e u).0 (grind (arith, nat_tests))
 
   abbrev complete? : Bool
   complete? = home? && (on_lanes? && all_decided?)
 
   complete : complete? ≡ true → Complete lanes b
   complete h =
-      let p = and_parts home? (on_lanes? && all_decided?) h in
-      let q = and_parts on_lanes? all_decided? p.1 in
+      let p = and_parts _ _ h in
+      let q = and_parts _ _ p.1 in
       record { home = home p.0; on_lanes = on_lanes q.0; decided = all_decided q.1 }
 
   -- who goes first and who goes second differ
   abbrev differ? : Bool
-  differ? = all? (λ (k : APrecedence). not (eqb k.1.first k.1.second)) (standing b)
+  differ? = list_all (λ (k : APrecedence). not (eqb k.1.first k.1.second)) (standing b)
 
   -- a leg of the first carrier's begins at its stop
   abbrev Begins : APrecedence × AStop → ALeg → Type 0
@@ -75,28 +70,24 @@ module _ (lanes : Lanes) (b : Book) where
 
   -- who goes first goes on
   abbrev goes? : APrecedence × AStop → Bool
-  goes? p = not (eqb p.1.1.carrier p.0.1.first && eqb p.1.1.place p.0.1.place) || any? (begins? p) (legs b lanes)
+  goes? p = not (eqb p.1.1.carrier p.0.1.first && eqb p.1.1.place p.0.1.place) || list_any (begins? p) (legs b lanes)
 
   abbrev goes_on? : Bool
-  goes_on? = all? goes? (pairs (standing b) (visits b))
+  goes_on? = list_all goes? (pairs (standing b) (visits b))
+
+  decides_begins : (p : APrecedence × AStop) → Decides (list_any (begins? p) (legs b lanes)) ((l : ALeg) × IsLeg b lanes l × Begins p l)
+  decides_begins p = decides_some (IsLeg b lanes) (Begins p) (legs b lanes) (begins? p) (exactly_legs b lanes) (λ l. search (rules, decided_numbers))
 
   goes_on : goes_on? ≡ true → (k first second u s : ℕ) → Stands b k first second u → Visits b s first u → (t v d : ℕ) × Leg lanes b first s u t v d
   goes_on h k first second u s stands visit =
       let p : APrecedence × AStop = ((k, record { first = first; second = second; place = u }), (s, record { carrier = first; place = u })) in
-      let same : Decides (eqb first first && eqb u u) ((first ≡ first) × (u ≡ u)) = Decides-and _ _ (Decides-eqb first first) (Decides-eqb u u) in
-      let begins : Decides (any? (begins? p) (legs b lanes)) ((l : ALeg) × IsLeg b lanes l × Begins p l) =
-      decides_some (IsLeg b lanes) (Begins p) (legs b lanes) (begins? p) (exactly_legs b lanes)
-      (λ l. Decides-and _ _ (Decides-eqb l.0.c first) (Decides-and _ _ (Decides-eqb l.0.s s) (Decides-eqb l.0.u u))) in
       let passes = each_passes (λ (q : APrecedence × AStop). IsPrecedence b q.0 × IsStop b q.1) (pairs (standing b) (visits b)) goes? (exactly_pairs (IsPrecedence b) (IsStop b) (standing b) (visits b) (exactly_standing b) (exactly_visits b)) h p (stands, visit) in
-      ⊎_elim
-      (λ away. absurd (both_ways (eqb first first && eqb u u) (not-true _ away) (same.1 (refl, refl))))
-      (λ some. let l = begins.0 some in
-      (l.0.0.t, l.0.0.v, l.0.1, subst₃ (λ (c s u : ℕ). Leg lanes b c s u l.0.0.t l.0.0.v l.0.1) l.2.0 l.2.1.0 l.2.1.1 l.1))
-      (or_cases (not (eqb first first && eqb u u)) (any? (begins? p) (legs b lanes)) passes)
+      let l = (decides_begins p).0 (grind (arith, nat_tests)) in
+      (l.0.0.t, l.0.0.v, l.0.1, subst₃ (λ (c s u : ℕ). Leg lanes b c s u l.0.0.t l.0.0.v l.0.1) l.2.0 l.2.1.0 l.2.1.1 l.1)
 
   orderly : differ? ≡ true → goes_on? ≡ true → Orderly lanes b
   orderly d g = record {
-    differ = λ k first second u stands. eqb-false first second (not-true _ (each_passes (IsPrecedence b) (standing b) (λ p. not (eqb p.1.first p.1.second)) (exactly_standing b) d (k, record { first = first; second = second; place = u }) stands));
+    differ = λ k first second u stands. let passes = each_passes (IsPrecedence b) (standing b) (λ p. not (eqb p.1.first p.1.second)) (exactly_standing b) d (k, record { first = first; second = second; place = u }) stands in grind (arith, nat_tests);
     goes_on = goes_on g;
   }
 
@@ -106,8 +97,8 @@ module _ (lanes : Lanes) (b : Book) where
 
   pub whole : whole? ≡ true → Complete lanes b × Orderly lanes b
   whole h =
-      let p = and_parts complete? (differ? && goes_on?) h in
-      let q = and_parts differ? goes_on? p.1 in
+      let p = and_parts _ _ h in
+      let q = and_parts _ _ p.1 in
       (complete p.0, orderly q.0 q.1)
 
 -- the pair (s, t) is in the list, and none in it is lower
@@ -118,16 +109,12 @@ abbrev not_lower : ℕ → ℕ → ℕ × ℕ → Bool
 not_lower s t n = ltb s n.0 || (eqb n.0 s && leb t n.1)
 
 abbrev pub lowest? : List (ℕ × ℕ) → ℕ → ℕ → Bool
-lowest? xs s t = any? (is_pair s t) xs && all? (not_lower s t) xs
+lowest? xs s t = list_any (is_pair s t) xs && list_all (not_lower s t) xs
 
 pub lowest : (P : ℕ → ℕ → Type 0) (xs : List (ℕ × ℕ)) → Exactly (λ (n : ℕ × ℕ). P n.0 n.1) xs → (s t : ℕ) → lowest? xs s t ≡ true → LowestPair P s t
 lowest P xs l s t h =
     let Q : ℕ × ℕ → Type 0 = λ n. P n.0 n.1 in
-    let p = and_parts (any? (is_pair s t) xs) (all? (not_lower s t) xs) h in
-    let at = (decides_some Q (λ (n : ℕ × ℕ). (n.0 ≡ s) × (n.1 ≡ t)) xs (is_pair s t) l (λ n. Decides-and _ _ (Decides-eqb n.0 s) (Decides-eqb n.1 t))).0 p.0 in
-    let low : (r q : ℕ) → P r q → (s < r → ⊥) → (r ≡ s → t ≤ q → ⊥) → ⊥ = λ r q k above level.
-    ⊎_elim
-    (λ e. above (ltb-true s r e))
-    (λ e. let f = and_parts (eqb r s) (leb t q) e in level (eqb-true r s f.0) (leb-true t q f.1))
-    (or_cases (ltb s r) (eqb r s && leb t q) (each_passes Q xs (not_lower s t) l p.1 (r, q) k)) in
-    (subst₂ P at.2.0 at.2.1 at.1, λ r q m k. low r q k (λ a. omega arith) (λ a c. omega arith), λ q m k. low s q k (λ a. omega arith) (λ a c. omega arith))
+    let p = and_parts (list_any (is_pair s t) xs) (list_all (not_lower s t) xs) h in
+    let at = (decides_some Q (λ (n : ℕ × ℕ). (n.0 ≡ s) × (n.1 ≡ t)) xs (is_pair s t) l (λ n. grind (arith, nat_tests))).0 p.0 in
+    let low = each_passes Q xs (not_lower s t) l p.1 in
+    (subst₂ P at.2.0 at.2.1 at.1, λ r q m k. let passes = low (r, q) k in grind (arith, nat_tests), λ q m k. let passes = low (s, q) k in grind (arith, nat_tests))

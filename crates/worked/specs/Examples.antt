@@ -1,5 +1,5 @@
 -- The worked examples: whole histories of sheets with every answer and every finding, and the lanes of small grids.
-use Rattle.std.specs.Prelude.{◌≡◌, ℕ, ◌-◌, ◌≤◌, List, [], ◌∷◌, ℤ, pos, negsuc, Some, None, Ok, Err, slice_index}
+use Rattle.std.specs.Prelude.{◌≡◌, ℕ, ◌-◌, ◌≤◌, ◌↔◌, List, [], ◌∷◌, ℤ, pos, negsuc, Some, None, Ok, Err, slice_index}
 use Rattle.lane_yard.specs.declared.lane.Lane.{Lane}
 use Rattle.lane_yard.specs.declared.refusal.LayRefusal.TheVariants.{BadLane, NotRising}
 use Rattle.lane_yard.specs.Records.{lane, time_of}
@@ -46,7 +46,7 @@ lag s t w = record { from = s; to = t; weight = w }
 
 -- the listed lags are the lags, and there are no others
 abbrev pub AreTheLags : Setting → Book → List LagRecord → Type 0
-AreTheLags y b listed = (s t : ℕ) (w : ℤ) → (LagIn y b s t w → Listed listed s t w) × (Listed listed s t w → LagIn y b s t w)
+AreTheLags y b listed = (s t : ℕ) (w : ℤ) → LagIn y b s t w ↔ Listed listed s t w
 
 -- arrivals by stop number
 abbrev pub arrivals : List ℕ → ℕ → ℕ
@@ -65,16 +65,16 @@ abbrev pub precedence : ℕ → ℕ → ℕ → BookPrecedence
 precedence first second u = record { first = first; second = second; place = u }
 
 -- the yard P: lanes both ways between 0 and 1 (3 ticks), 1 and 2 (2), 2 and 3 (4), 1 and 4 (5)
-abbrev pub PLanes : List Lane
-PLanes = lane 0 1 3 ∷ lane 1 0 3 ∷ lane 1 2 2 ∷ lane 1 4 5 ∷ lane 2 1 2 ∷ lane 2 3 4 ∷ lane 3 2 4 ∷ lane 4 1 5 ∷ []
+abbrev pub lanes_of_P : List Lane
+lanes_of_P = lane 0 1 3 ∷ lane 1 0 3 ∷ lane 1 2 2 ∷ lane 1 4 5 ∷ lane 2 1 2 ∷ lane 2 3 4 ∷ lane 3 2 4 ∷ lane 4 1 5 ∷ []
 
 -- its travel times
 abbrev pub P : Lanes
-P = time_of PLanes
+P = time_of lanes_of_P
 
 -- the sheet S: carrier 0 from 0 to 3, carrier 1 from 2 to 4, and their further stops, with the precedences that stand
-abbrev pub SWith : List BookPrecedence → Book
-SWith standing = record {
+abbrev pub S_with : List BookPrecedence → Book
+S_with standing = record {
   carriers = carrier 0 3 ∷ carrier 2 4 ∷ [];
   stops = stop 0 0 ∷ stop 1 2 ∷ stop 0 1 ∷ stop 0 2 ∷ stop 0 3 ∷ stop 1 1 ∷ stop 1 4 ∷ [];
   precedences = standing;
@@ -82,15 +82,15 @@ SWith standing = record {
 
 -- S as it is entered
 abbrev pub S : Book
-S = SWith (precedence 1 0 2 ∷ precedence 1 0 1 ∷ [])
+S = S_with (precedence 1 0 2 ∷ precedence 1 0 1 ∷ [])
 
 -- with the second precedence struck
-abbrev pub SStruck : Book
-SStruck = SWith (precedence 1 0 2 ∷ [])
+abbrev pub S_struck : Book
+S_struck = S_with (precedence 1 0 2 ∷ [])
 
 -- with that precedence entered the other way round
-abbrev pub STurned : Book
-STurned = SWith (precedence 1 0 2 ∷ precedence 0 1 1 ∷ [])
+abbrev pub S_turned : Book
+S_turned = S_with (precedence 1 0 2 ∷ precedence 0 1 1 ∷ [])
 
 -- S is entered, call by call
 abbrev pub enters_S : History Event
@@ -143,20 +143,20 @@ pub record LagsOfS : Type 0 where
 -- why head on is not left to the rings: the lags of the ring 3, 5 add up to 2, 0, -2 and 0 under the four rules, and under
 -- lane less one these arrivals keep every lag, though in them the two carriers meet on the way
 pub record HeadOnApart : Type 0 where
-  pub sum_full_lane : Way (LagIn (full_lane P) STurned) 3 (3 ∷ 5 ∷ []) 3 (pos 2)
-  pub sum_lane_less_one : Way (LagIn (lane_less_one P) STurned) 3 (3 ∷ 5 ∷ []) 3 (pos 0)
-  pub sum_fixed_gap_0 : Way (LagIn (fixed_gap 0 P) STurned) 3 (3 ∷ 5 ∷ []) 3 (negsuc 1)
-  pub sum_fixed_gap_1 : Way (LagIn (fixed_gap 1 P) STurned) 3 (3 ∷ 5 ∷ []) 3 (pos 0)
-  pub kept : Solution (LagIn (lane_less_one P) STurned) (arrivals (0 ∷ 0 ∷ 3 ∷ 5 ∷ 9 ∷ 5 ∷ 10 ∷ []))
-  pub conflict : Conflict P (lane_less_one P).gap STurned (arrivals (0 ∷ 0 ∷ 3 ∷ 5 ∷ 9 ∷ 5 ∷ 10 ∷ []))
+  pub sum_full_lane : Way (LagIn (full_lane P) S_turned) 3 (3 ∷ 5 ∷ []) 3 (pos 2)
+  pub sum_lane_less_one : Way (LagIn (lane_less_one P) S_turned) 3 (3 ∷ 5 ∷ []) 3 (pos 0)
+  pub sum_fixed_gap_0 : Way (LagIn (fixed_gap 0 P) S_turned) 3 (3 ∷ 5 ∷ []) 3 (negsuc 1)
+  pub sum_fixed_gap_1 : Way (LagIn (fixed_gap 1 P) S_turned) 3 (3 ∷ 5 ∷ []) 3 (pos 0)
+  pub kept : Solution (LagIn (lane_less_one P) S_turned) (arrivals (0 ∷ 0 ∷ 3 ∷ 5 ∷ 9 ∷ 5 ∷ 10 ∷ []))
+  pub conflict : Conflict P (lane_less_one P).gap S_turned (arrivals (0 ∷ 0 ∷ 3 ∷ 5 ∷ 9 ∷ 5 ∷ 10 ∷ []))
 
 -- the triangle: lanes 0 to 1, 1 to 2 and 2 to 0 of one tick each
 abbrev pub triangle_lanes : List Lane
 triangle_lanes = lane 0 1 1 ∷ lane 1 2 1 ∷ lane 2 0 1 ∷ []
 
 -- their travel times
-abbrev pub Triangle : Lanes
-Triangle = time_of triangle_lanes
+abbrev pub triangle : Lanes
+triangle = time_of triangle_lanes
 
 -- three carriers, each of which goes on to the place that the next leaves; under full lane they wait for each other in a
 -- ring, under lane less one they all move at once
@@ -172,8 +172,8 @@ judges_triangle =
     ▹ entered (enter_precedence 1 0 1) (Ok 1)
     ▹ entered (enter_precedence 2 1 2) (Ok 2)
     ▹ entered (enter_precedence 0 2 0) (Ok 3)
-    ▹ judged (full_lane Triangle) 1024 (Some (in_a_ring (3 ∷ 5 ∷ 4 ∷ [])))
-    ▹ judged (lane_less_one Triangle) 1024 (Some (passes (0 ∷ 0 ∷ 0 ∷ 1 ∷ 1 ∷ 1 ∷ [])))
+    ▹ judged (full_lane triangle) 1024 (Some (in_a_ring (3 ∷ 5 ∷ 4 ∷ [])))
+    ▹ judged (lane_less_one triangle) 1024 (Some (passes (0 ∷ 0 ∷ 0 ∷ 1 ∷ 1 ∷ 1 ∷ [])))
 
 -- what its sheet then holds
 abbrev pub triangle_sheet : Book
@@ -253,18 +253,18 @@ pub record Examples : Type 0 where
   -- which lists of lanes are laid
   pub lists_of_lanes : ListsOfLanes
   -- the two yards' lists of lanes may be laid as they stand
-  pub PLaid : MayBeLaid PLanes
+  pub P_laid : MayBeLaid lanes_of_P
   pub triangle_laid : MayBeLaid triangle_lanes
   -- the sheet S, call by call and judging by judging
-  pub SJudged : (gap : Gaps) (largest : ℕ) → Lawful (turns_S gap largest) STurned
-  pub SLags : LagsOfS
-  pub SHeadOn : HeadOnApart
+  pub S_judged : (gap : Gaps) (largest : ℕ) → Lawful (turns_S gap largest) S_turned
+  pub S_lags : LagsOfS
+  pub S_head_on : HeadOnApart
   -- the triangle; the lags of its ring add up to 3 under full lane and to 0 under lane less one
   pub triangle_judged : Lawful judges_triangle triangle_sheet
-  pub lags_full_lane : AreTheLags (full_lane Triangle) triangle_sheet (lags_of_triangle (pos 1))
-  pub lags_lane_less_one : AreTheLags (lane_less_one Triangle) triangle_sheet (lags_of_triangle (pos 0))
-  pub ring_sum_full_lane : Way (LagIn (full_lane Triangle) triangle_sheet) 3 (3 ∷ 5 ∷ 4 ∷ []) 3 (pos 3)
-  pub ring_sum_lane_less_one : Way (LagIn (lane_less_one Triangle) triangle_sheet) 3 (3 ∷ 5 ∷ 4 ∷ []) 3 (pos 0)
+  pub lags_full_lane : AreTheLags (full_lane triangle) triangle_sheet (lags_of_triangle (pos 1))
+  pub lags_lane_less_one : AreTheLags (lane_less_one triangle) triangle_sheet (lags_of_triangle (pos 0))
+  pub ring_sum_full_lane : Way (LagIn (full_lane triangle) triangle_sheet) 3 (3 ∷ 5 ∷ 4 ∷ []) 3 (pos 3)
+  pub ring_sum_lane_less_one : Way (LagIn (lane_less_one triangle) triangle_sheet) 3 (3 ∷ 5 ∷ 4 ∷ []) 3 (pos 0)
   -- in every yard, whose travel times are at least 1, and under every rule: the empty sheet passes with no arrivals, and a carrier that stays is there at 0
   -- and is refused every further stop
   pub nobody : (y : Setting) → Positive y.lanes → Lawful (opening ▹ judged y 0 (Some (passes []))) opened
