@@ -5,15 +5,9 @@ ghost use Rattle.lags.specs.Solved.{Allowed, Earliest, Inside, Looped, at};
 ghost use Rattle.lags.specs.Times.{after};
 ghost use Rattle.lags.specs.Traced.{EndCount, Overrun, ParentCycle};
 
-use crate::Lag;
+use crate::{Lag, MOST_LAGS, MOST_NODES};
 use crate::rings::write_from_lowest;
 use arrayvec::ArrayVec;
-
-// The most nodes.
-pub(crate) const MOST_NODES: usize = 1024;
-
-// The most lags.
-const MOST_LAGS: usize = 3072;
 
 // The most that a weight may be above or below 0.
 const MOST_WEIGHT: i32 = 100000;

@@ -3,10 +3,16 @@
 
 ghost use Rattle.lags.specs.Solved.{Solved};
 
-use graph::{Graph, MOST_NODES};
+use graph::Graph;
 
 mod graph;
 mod rings;
+
+// The most nodes.
+pub const MOST_NODES: usize = 1024;
+
+// The most lags.
+pub const MOST_LAGS: usize = 3072;
 
 // A lag: the arrival at the node `to` is at least `weight` after the arrival at the node `from`.
 #[derive(Clone, Copy, PartialEq, Eq, Default, Debug)]

@@ -8,3 +8,6 @@ pub mod page;
 pub mod read;
 pub mod refusal;
 pub mod write;
+
+// The most digits of a line.
+pub const MOST_DIGITS: usize = 64;

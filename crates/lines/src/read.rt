@@ -5,6 +5,7 @@ ghost use Rattle.lines.specs.Digits.{FirstBad};
 ghost use Rattle.lines.specs.Entries.{Says};
 ghost use Rattle.lines.specs.Reading.{first_byte, unruled, rule_of, entry_of, checked, unknown_kind, wrong_length, bad_rule, reading};
 
+use crate::MOST_DIGITS;
 use crate::digits::{check_digits, decode};
 use crate::entry::{Entry, Input, Rule};
 use crate::refusal::LineRefusal;
@@ -77,7 +78,7 @@ pub fn read_entry(line: &[u8], input: Input) -> Result<Entry, LineRefusal>
     ensures column { (c : ℕ) → (result ≡ Err (BadDigit c)) ↔ ((length line.now ≤ 64) × FirstBad line.now c) }
     ensures kept { (whole : List ℕ) → line.now ≡ take 65 whole → result ≡ reading input whole }
 {
-    if line.len() > 64 {
+    if line.len() > MOST_DIGITS {
         return Err(LineRefusal::BadLength);
     }
     check_digits(line)?;

@@ -11,20 +11,12 @@ ghost use Rattle.sheet.specs.Sound.{Sound, Holds};
 ghost use Rattle.sheet.specs.Tables.{book_of, OnlyGoesOn, NumberedTables, CarriersInside, StopsInside, Linked, PrecedencesInside};
 
 use crate::records::{Carrier, Goal, Order, Precedence, Start, Stop, Visit};
+use crate::limits::{MOST_CARRIERS, MOST_PRECEDENCES, MOST_STOPS};
 use crate::refusal::EntryRefusal;
 use bounded::BoundedVec;
 use keyed::{Keyed, find};
 use std::alloc::{AllocError, Global};
-
-// The most that a sheet holds of each.
-const MOST_CARRIERS: usize = 64;
-
-const MOST_STOPS: usize = 1024;
-
-const MOST_PRECEDENCES: usize = 2048;
-
-// The highest number of a place.
-const HIGHEST_PLACE: u16 = 4095;
+use yard::limits::HIGHEST_PLACE;
 
 // The three lists of a sheet, each in order of entry.
 #[derive(Drop)]

@@ -5,6 +5,7 @@
 ghost use Rattle.std.specs.Prelude.{◌≡◌, ℕ, ◌≤◌, IfSome, Option};
 ghost use Rattle.yard.specs.Limits.{LaneWithin};
 
+pub mod limits;
 pub mod refusal;
 pub mod rules;
 

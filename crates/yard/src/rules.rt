@@ -4,6 +4,7 @@ ghost use Rattle.std.specs.Prelude.{◌≡◌, ◌-◌, ◌<◌, ◌≤◌, Matc
 ghost use Rattle.std.proofs.Common.{rules};
 
 use crate::FollowingRule;
+use crate::limits::LONGEST_GAP;
 use crate::refusal::GapRefusal;
 
 // Full lane: the place may be reached in the tick after the carrier that left it reaches the other end.
@@ -90,7 +91,7 @@ impl TryFrom<u16> for FixedGap {
     ghost try_from_gives = { λ ticks r. MatchResult r (λ s. (ticks ≤ 36000) × (s.ticks ≡ ticks)) (λ e. (36000 < ticks) × (e ≡ GapTooLong)) };
 
     fn try_from(ticks: u16) -> Result<FixedGap, GapRefusal> {
-        if ticks > 36000 {
+        if ticks > LONGEST_GAP {
             return Err(GapRefusal::GapTooLong);
         }
         Ok(FixedGap { ticks })
@@ -115,34 +116,58 @@ impl FollowingRule for FixedGap {
     }
 }
 
-// Any of the following rules.
+// A following rule by its kind, with the gap of a fixed one as a number that may be too long, `Rule<u16>`, or as one that
+// is within the limit, `Rule<FixedGap>`.
 #[derive(Clone, Copy, PartialEq, Eq, Debug)]
-pub enum AnyRule {
+pub enum Rule<G> {
     FullLane,
     LaneLessOne,
-    Fixed { gap: FixedGap },
+    FixedGap { gap: G },
 }
 
-impl FollowingRule for AnyRule {
+// Any of the following rules.
+pub type AnyRule = Rule<FixedGap>;
+
+impl FollowingRule for Rule<FixedGap> {
     ghost use Rattle.yard.specs.Rules.{gaps_of};
 
     const LARGEST_GAP: u32 = 36000;
 
     ghost LARGEST_GAP = { 36000 };
 
-    ghost gaps = { gaps_of };
+    ghost gaps = { gaps_of (λ g. g.ticks) };
 
     ghost small = { Prim.search rules };
 
     ghost bounded = { Prim.search rules };
 
     fn gap(&self, from: u16, to: u16, time: u16) -> u32
-        ensures { result ≡ gaps_of self.now from to time }
+        ensures { result ≡ gaps_of (λ g. g.ticks) self.now from to time }
     {
         match self {
-            AnyRule::FullLane => FullLane.gap(from, to, time),
-            AnyRule::LaneLessOne => LaneLessOne.gap(from, to, time),
-            AnyRule::Fixed { gap } => gap.gap(from, to, time),
+            Rule::FullLane => FullLane.gap(from, to, time),
+            Rule::LaneLessOne => LaneLessOne.gap(from, to, time),
+            Rule::FixedGap { gap } => gap.gap(from, to, time),
+        }
+    }
+}
+
+// The rule within the limits, if it is: a fixed gap above 36,000 ticks is refused.
+impl TryFrom<Rule<u16>> for Rule<FixedGap> {
+    ghost use Rattle.yard.specs.declared.refusal.GapRefusal.TheVariants.{GapTooLong};
+    ghost use Rattle.yard.specs.Rules.{gap_of, gaps_of};
+
+    type Error = GapRefusal;
+
+    ghost try_from_gives = { λ rule r. MatchResult r (λ any. (gap_of rule ≤ 36000) × (gaps_of (λ g. g.ticks) any ≡ gaps_of (λ g. g) rule)) (λ e. (36000 < gap_of rule) × (e ≡ GapTooLong)) };
+
+    fn try_from(rule: Rule<u16>) -> Result<Rule<FixedGap>, GapRefusal> {
+        match rule {
+            Rule::FullLane => Ok(Rule::FullLane),
+            Rule::LaneLessOne => Ok(Rule::LaneLessOne),
+            Rule::FixedGap { gap } => Ok(Rule::FixedGap {
+                gap: FixedGap::try_from(gap)?,
+            }),
         }
     }
 }
