@@ -1,5 +1,5 @@
 -- The cells of a grid and the lanes between them.
-use Rattle.std.specs.Prelude.{◌≡◌, ℕ, ◌+◌, ◌*◌, ◌/◌, ◌%◌, ◌^◌, ◌<◌, ◌⊎◌, List, Some, Option, ◌≢◌, slice_index}
+use Rattle.std.specs.Prelude.{◌≡◌, ℕ, ◌+◌, ◌*◌, ◌/◌, ◌%◌, ◌^◌, ◌<◌, ◌⊎◌, ◌↔◌, List, Some, Option, ◌≢◌, slice_index}
 use Rattle.grid_yard.specs.declared.plan.Plan.{Plan}
 
 -- bit k of a word, counted from the lowest, the bit of value 1
@@ -42,4 +42,4 @@ module _ (g : Plan) (words : List ℕ) where
 
   -- these lanes are those of the grid: each that it joins cells by, and no other
   abbrev pub LanesOf : (ℕ → ℕ → Option ℕ) → Type 0
-  LanesOf lanes = (a b time : ℕ) → (lanes a b ≡ Some time → Joined a b time) × (Joined a b time → lanes a b ≡ Some time)
+  LanesOf lanes = (a b time : ℕ) → ((lanes a b ≡ Some time) ↔ Joined a b time)

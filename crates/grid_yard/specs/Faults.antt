@@ -22,9 +22,9 @@ Covered g words = needed g ≤ length words
 
 -- the first of the checks that fails
 abbrev pub Fault : Plan → List ℕ → GridRefusal → Type 0
-Fault g words BadSize = Sized g → ⊥
-Fault g words BadTime = Sized g × (Timed g → ⊥)
-Fault g words TooFewWords = Sized g × Timed g × (Covered g words → ⊥)
+Fault g words BadSize = ¬ Sized g
+Fault g words BadTime = Sized g × (¬ Timed g)
+Fault g words TooFewWords = Sized g × Timed g × (¬ Covered g words)
 
 -- a grid that may be set out
 abbrev pub Lawful : Plan → List ℕ → Type 0

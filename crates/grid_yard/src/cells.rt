@@ -4,6 +4,9 @@ ghost use Rattle.grid_yard.specs.Times.{adjacent, closed_cell, set_bit, step};
 
 use crate::plan::Plan;
 
+// How many cells a word closes: one a bit.
+pub(crate) const CELLS_IN_WORD: u16 = 64;
+
 // Whether bit k of the word is set, counted from the lowest.
 fn is_set(word: u64, k: u16) -> bool
     requires { k < 64 }
@@ -17,7 +20,10 @@ pub(crate) fn is_closed(words: &[u64], cell: u16) -> bool
     requires { cell < 64 * length words.now }
     ensures { result ≡ closed_cell words.now cell }
 {
-    is_set(words[usize::from(cell / 64)], cell % 64)
+    is_set(
+        words[usize::from(cell / CELLS_IN_WORD)],
+        cell % CELLS_IN_WORD,
+    )
 }
 
 // Whether the two numbers differ by one.

@@ -1,5 +1,8 @@
 // What a grid is set out with, beside the words that close cells.
 
+// The most rows, and the most columns.
+pub const LONGEST_SIDE: u16 = 64;
+
 #[derive(Clone, Copy, PartialEq, Eq, Debug)]
 pub struct Plan {
     pub rows: u16,

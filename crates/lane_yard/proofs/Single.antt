@@ -6,7 +6,7 @@ use Rattle.lane_yard.specs.declared.refusal.LayRefusal.TheVariants.{BadLane, Not
 use Rattle.lane_yard.specs.Faults.{Fault, Lawful}
 
 module _ (xs : List Lane) where
-  pub no_fault : (e : LayRefusal) → Lawful xs → Fault xs e → ⊥
+  pub no_fault : (e : LayRefusal) → Lawful xs → ¬ Fault xs e
   no_fault TooManyLanes l f = search rules
   no_fault (BadLane i) l f = search rules
   no_fault (NotRising i) l f = grind (arith, f.5 (i - 1), l.1.1 (i - 1))

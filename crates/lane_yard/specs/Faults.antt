@@ -16,5 +16,5 @@ Lawful xs = (length xs ≤ 8192) × Clean xs (length xs)
 -- the first fault of a list, lane by lane, where there are not too many
 abbrev pub Fault : List Lane → LayRefusal → Type 0
 Fault xs TooManyLanes = 8192 < length xs
-Fault xs (BadLane i) = (length xs ≤ 8192) × (i < length xs) × Clean xs i × (Within (slice_index_or xs i no_lane) → ⊥)
-Fault xs (NotRising i) = (length xs ≤ 8192) × (i < length xs) × Clean xs i × Within (slice_index_or xs i no_lane) × (0 < i) × ((k : ℕ) → k + 1 ≡ i → Before (slice_index_or xs k no_lane) (slice_index_or xs i no_lane) → ⊥)
+Fault xs (BadLane i) = (length xs ≤ 8192) × (i < length xs) × Clean xs i × (¬ Within (slice_index_or xs i no_lane))
+Fault xs (NotRising i) = (length xs ≤ 8192) × (i < length xs) × Clean xs i × Within (slice_index_or xs i no_lane) × (0 < i) × ((k : ℕ) → k + 1 ≡ i → ¬ Before (slice_index_or xs k no_lane) (slice_index_or xs i no_lane))

@@ -1,6 +1,6 @@
 -- What a list of lanes says, and when it is lawful.
-use Rattle.std.specs.Prelude.{◌≡◌, ℕ, ◌+◌, ◌<◌, ◌≤◌, cond, ◌&&◌, List, [], ◌∷◌, length, get_or, Some, None, Option, ◌==◌, ◌≢◌, slice_index_or}
-use Rattle.std.specs.List.{ContainsAt}
+use Rattle.std.specs.Prelude.{◌≡◌, ℕ, ◌+◌, ◌<◌, ◌≤◌, cond, ◌&&◌, List, [], ◌∷◌, length, Some, None, Option, ◌==◌, ◌≢◌, ◌↔◌, slice_index_or}
+use Rattle.std.specs.List.{Contains}
 use Rattle.yard.specs.Limits.{LaneWithin}
 use Rattle.lane_yard.specs.declared.lane.Lane.{Lane}
 
@@ -27,7 +27,7 @@ no_lane = lane 0 0 0
 
 -- the answer tells of the lane between two places that stands in the list, or of none
 unfoldable pub Tells : List Lane → ℕ → ℕ → Option ℕ → Type 0
-Tells xs from to answer = (time : ℕ) → (answer ≡ Some time → ContainsAt xs (lane from to time)) × (ContainsAt xs (lane from to time) → answer ≡ Some time)
+Tells xs from to answer = (time : ℕ) → ((answer ≡ Some time) ↔ Contains xs (lane from to time))
 
 -- these lanes are those of the list: each that stands in it, and no other
 abbrev pub LanesOf : List Lane → (ℕ → ℕ → Option ℕ) → Type 0
@@ -43,4 +43,4 @@ Rising xs = (k : ℕ) → k + 1 < length xs → Before (slice_index_or xs k no_l
 
 -- no lane from index `low` to below index `high` joins the two places
 abbrev pub Absent : List Lane → ℕ → ℕ → ℕ → ℕ → Type 0
-Absent xs from to low high = (k : ℕ) → low ≤ k → k < high → (get_or xs k no_lane).from ≡ from → (get_or xs k no_lane).to ≢ to
+Absent xs from to low high = (k : ℕ) → low ≤ k → k < high → (slice_index_or xs k no_lane).from ≡ from → (slice_index_or xs k no_lane).to ≢ to

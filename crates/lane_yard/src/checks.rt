@@ -5,12 +5,17 @@ ghost use Rattle.lane_yard.specs.Records.{Before, Within};
 
 use crate::lane::Lane;
 use crate::refusal::LayRefusal;
+use crate::yards::MOST_LANES;
+use yard::limits::{HIGHEST_PLACE, LONGEST_TIME};
 
 // Whether the lane is within the limits.
 fn is_within(lane: &Lane) -> bool
     ensures { IsTrue result ↔ Within lane.now }
 {
-    lane.from <= 4095 && lane.to <= 4095 && lane.from != lane.to && (1..=36000).contains(&lane.time)
+    lane.from <= HIGHEST_PLACE
+        && lane.to <= HIGHEST_PLACE
+        && lane.from != lane.to
+        && (1..=LONGEST_TIME).contains(&lane.time)
 }
 
 // Whether `a` comes before `b`: by the place they lead from, then by the place they lead to.
@@ -20,24 +25,22 @@ fn is_before(a: &Lane, b: &Lane) -> bool
     a.places() < b.places()
 }
 
-// The first fault of a list, if it has one. An index below 8,192 fits, which the check proves of `as`.
+// The first fault of a list, if it has one.
 pub(crate) fn check_lanes(lanes: &[Lane]) -> Result<(), LayRefusal>
     ensures { MatchResult result (λ _. Lawful lanes.now) (λ e. Fault lanes.now e) }
 {
-    if lanes.len() > 8192 {
+    if lanes.len() > MOST_LANES {
         return Err(LayRefusal::TooManyLanes);
     }
-    for (i, lane) in lanes.iter().enumerate() {
-        let index = i as u16;
+    let mut previous = None;
+    for (index, lane) in (0u16..).zip(lanes) {
         if !is_within(lane) {
             return Err(LayRefusal::BadLane { index });
         }
-        if lanes[..i]
-            .last()
-            .is_some_and(|previous| !is_before(previous, lane))
-        {
+        if previous.is_some_and(|previous| !is_before(previous, lane)) {
             return Err(LayRefusal::NotRising { index });
         }
+        previous = Some(lane);
     }
     Ok(())
 }

@@ -68,7 +68,8 @@ impl FixedGap {
 
     // The gap.
     pub fn ticks(&self) -> u16
-        ensures { (result ≡ self.now.ticks) × (result ≤ 36000) }
+        ensures value { result ≡ self.now.ticks }
+        ensures short { result ≤ 36000 }
     {
         self.ticks
     }

@@ -6,7 +6,7 @@ ghost use Rattle.lane_yard.specs.Records.{LanesOf, Tells};
 ghost use Rattle.lane_yard.specs.Times.{time_within};
 
 use crate::checks::check_lanes;
-use crate::lane::Lane;
+use crate::lane::{Lane, packed};
 use crate::refusal::LayRefusal;
 use crate::yards::LaneYard;
 use bounded::BoundedVec;
@@ -51,8 +51,9 @@ impl Yard for LaneYard {
         ensures tells { Tells (records_of self.now) from to result }
     {
         let lanes = self.lanes();
+        let wanted = packed(from, to);
         lanes
-            .binary_search_by_key(&(from, to), |lane| lane.places())
+            .binary_search_by(|lane| packed(lane.from, lane.to).cmp(&wanted))
             .ok()
             .map(|index| lanes[index].time)
     }
