@@ -1,2 +1,2 @@
-// Any of the following rules.
+// Any of the following rules, beside any of the kinds of yard.
 pub use yard::rules::AnyRule;

@@ -12,7 +12,7 @@ mod tests {
     use lane_yard::yards::LaneYard;
     use std::test::Fail;
     use yard::refusal::GapRefusal;
-    use yard::rules::{AnyRule, FixedGap, FullLane, LaneLessOne};
+    use yard::rules::{AnyRule, FixedGap, FullLane, LaneLessOne, Rule};
     use yard::{FollowingRule, Yard};
 
     fn lane(from: u16, to: u16, time: u16) -> Lane {
@@ -294,7 +294,7 @@ mod tests {
             (AnyRule::FullLane, 9),
             (AnyRule::LaneLessOne, 8),
             (
-                AnyRule::Fixed {
+                AnyRule::FixedGap {
                     gap: FixedGap::try_from(36000)?,
                 },
                 36000,
@@ -307,6 +307,25 @@ mod tests {
         assert_eq!(rt; refused, Err(GapRefusal::GapTooLong));
         assert_eq!(rt; AnyRule::LARGEST_GAP, 36000);
         Ok(())
+    }
+
+    // A rule with its gap as a number is one of the rules, or its gap is refused.
+    #[test]
+    fn rules_within_the_limit(rt: HostRuntime) {
+        let taken = [
+            (Rule::FullLane, 9),
+            (Rule::LaneLessOne, 8),
+            (Rule::FixedGap { gap: 0 }, 0),
+            (Rule::FixedGap { gap: 36000 }, 36000),
+        ];
+        for (rule, gap) in taken {
+            let any = AnyRule::try_from(rule);
+            assert_eq!(rt; any.map(|any| any.gap(1, 2, 9)), Ok(gap));
+        }
+        for gap in [36001, 65535] {
+            let refused = AnyRule::try_from(Rule::FixedGap { gap });
+            assert_eq!(rt; refused, Err(GapRefusal::GapTooLong));
+        }
     }
 
     #[test]

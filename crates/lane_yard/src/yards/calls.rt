@@ -16,7 +16,8 @@ use yard::Yard;
 impl LaneYard {
     // A yard with no lanes.
     pub fn new(heap: Global) -> Result<LaneYard, AllocError>
-        ensures { IfOk result (λ s. (records_of s ≡ []) × ((a b : ℕ) → lanes_of s a b ≡ None)) }
+        ensures no_records { IfOk result (λ s. records_of s ≡ []) }
+        ensures no_lanes { IfOk result (λ s. (a b : ℕ) → lanes_of s a b ≡ None) }
     {
         let records = BoundedVec::new(heap)?;
         Ok(LaneYard { records })
