@@ -4,7 +4,7 @@ ghost use Rattle.std.specs.Prelude.{◌≡◌, ◌-◌, ◌<◌, ◌≤◌, Matc
 ghost use Rattle.std.proofs.Common.{rules};
 
 use crate::FollowingRule;
-use crate::limits::LONGEST_GAP;
+use crate::limits::{LONGEST_GAP, LONGEST_TIME};
 use crate::refusal::GapRefusal;
 
 // Full lane: the place may be reached in the tick after the carrier that left it reaches the other end.
@@ -12,7 +12,7 @@ use crate::refusal::GapRefusal;
 pub struct FullLane;
 
 impl FollowingRule for FullLane {
-    const LARGEST_GAP: u32 = 36000;
+    const LARGEST_GAP: u32 = LONGEST_TIME as u32;
 
     ghost LARGEST_GAP = { 36000 };
 
@@ -34,7 +34,7 @@ impl FollowingRule for FullLane {
 pub struct LaneLessOne;
 
 impl FollowingRule for LaneLessOne {
-    const LARGEST_GAP: u32 = 35999;
+    const LARGEST_GAP: u32 = LONGEST_TIME as u32 - 1;
 
     ghost LARGEST_GAP = { 35999 };
 
@@ -100,7 +100,7 @@ impl TryFrom<u16> for FixedGap {
 }
 
 impl FollowingRule for FixedGap {
-    const LARGEST_GAP: u32 = 36000;
+    const LARGEST_GAP: u32 = LONGEST_GAP as u32;
 
     ghost LARGEST_GAP = { 36000 };
 
@@ -132,7 +132,7 @@ pub type AnyRule = Rule<FixedGap>;
 impl FollowingRule for Rule<FixedGap> {
     ghost use Rattle.yard.specs.Rules.{gaps_of};
 
-    const LARGEST_GAP: u32 = 36000;
+    const LARGEST_GAP: u32 = LONGEST_TIME as u32;
 
     ghost LARGEST_GAP = { 36000 };
 

@@ -27,5 +27,5 @@ loop-index-preserved c =
       clean = rw (steps.0.1, steps.0.0) (grown _ _ kept.clean (rw now.1 (grind arith)) (λ k e. rw now.1 (grind arith)));
       within = grind arith;
       rest = rw (steps.0.1, steps.0.0) now.2;
-      before = grind arith
+      before = grind arith;
     }
