@@ -1,6 +1,5 @@
 use Rattle.std.proofs.Common.{◌≡◌, arith, rules}
 use Rattle.std.proofs.lemmas.Fn.{always_returns_same}
-use Rattle.lane_yard.specs.declared.lane.Lane.{Lane}
 use Rattle.lane_yard.specs.Records.{time_of}
 use Rattle.lane_yard.proofs.Listed.{lanes_listed}
 use Rattle.lane_yard.proofs.Rises.{beside, searched}
