@@ -80,3 +80,7 @@ round_all lags α₀ p₀ α p i raised e h = record {
 -- no rounds
 pub rounds_none : (lags : List Lag) (α : List ℕ) (p : ℕ → ℕ) → Low α 0 → Progress lags (0 * length lags) 0 (at α) p
 rounds_none lags α p z = rw zero-mul (progress_none lags (at α) p (λ v. omega (arith, z v)))
+
+-- one round more
+pub rounds_more : (lags : List Lag) (k : ℕ) (α p α' p' : List ℕ) (r : Option ℕ) → Progress lags (k * length lags) 0 (at α) (at p) → Round lags α p α' p' r → Progress lags ((k + 1) * length lags) 0 (at α') (at p')
+rounds_more lags k α p α' p' r t round = let e : (k + 1) * length lags ≡ k * length lags + length lags = grind arith in rw e (round.progress (k * length lags) t).progress
