@@ -26,9 +26,9 @@ module _ (lags : List Lag) (base i : ℕ) (a p : ℕ → ℕ) (t : Progress lags
   Trace v xs x = Traced lags p a t.when v xs x
 
   -- the way back comes to no node twice
-  apart : (v : ℕ) (xs : List ℕ) (x : ℕ) → Trace v xs x → All (λ y. y ≡ x → ⊥) xs
+  apart : (v : ℕ) (xs : List ℕ) (x : ℕ) → Trace v xs x → All (λ y. ¬ y ≡ x) xs
   apart v xs x c =
-      All-from_get_or (λ y. y ≡ x → ⊥) xs 0 (λ k l e.
+      All-from_get_or (λ y. ¬ y ≡ x) xs 0 (λ k l e.
       let r = traced_round lags p a t.when v xs x k c l e in
       let d : 0 < length (drop k xs) = omega (arith, length-drop k xs) in
       above_raises (round_above lags p a t.when x (drop k xs) d r.way r.raised) (back_least lags p a t.when β s x x (drop k xs) r.way r.raised))
@@ -36,8 +36,8 @@ module _ (lags : List Lag) (base i : ℕ) (a p : ℕ → ℕ) (t : Progress lags
   shorter : (v : ℕ) (xs : List ℕ) (x : ℕ) → Trace v xs x → x < n → length xs < n
   shorter v xs x c b =
       let e = ends_inside lags n allowed xs (raised_ends lags p a t.when xs c.raised) in
-      let ne = All-weaker (λ y. y ≡ x → ⊥) (λ y. x ≡ y → ⊥) (λ y h e. h (sym e)) xs (apart v xs x c) in
-      omega (arith, length-le_from_below n (x ∷ xs) (AllPairs-cons (λ x y. x ≡ y → ⊥) x xs ne c.distinct) (All-cons (λ y. y < n) x xs b e))
+      let ne = All-weaker (λ y. ¬ y ≡ x) (λ y. ¬ x ≡ y) (λ y h e. h (sym e)) xs (apart v xs x c) in
+      omega (arith, length-le_from_below n (x ∷ xs) (AllPairs-cons (λ x y. ¬ x ≡ y) x xs ne c.distinct) (All-cons (λ y. y < n) x xs b e))
 
   -- at a node that was never raised the way back ends
   ended : (v : ℕ) (xs : List ℕ) (x : ℕ) → Trace v xs x → x < n → t.when x ≡ 0 → a v ≤ (n - 1) * w

@@ -17,7 +17,7 @@ module _ (xs : List ℕ) (v x : ℕ) (in' : v < length xs) where
   at_here : (w : ℕ) → w ≡ v → at (set xs v x) w ≡ x
   at_here w e = rw e (get_or-set_same xs v x 0 in')
 
-  at_else : (w : ℕ) → (w ≡ v → ⊥) → at (set xs v x) w ≡ at xs w
+  at_else : (w : ℕ) → (¬ w ≡ v) → at (set xs v x) w ≡ at xs w
   at_else w ne = get_or-set_other xs v w x 0 ne
 
 -- one more lag of a round, which is g
@@ -80,7 +80,3 @@ round_all lags α₀ p₀ α p i raised e h = record {
 -- no rounds
 pub rounds_none : (lags : List Lag) (α : List ℕ) (p : ℕ → ℕ) → Low α 0 → Progress lags (0 * length lags) 0 (at α) p
 rounds_none lags α p z = rw zero-mul (progress_none lags (at α) p (λ v. omega (arith, z v)))
-
--- one round more
-pub rounds_more : (lags : List Lag) (k : ℕ) (α p α' p' : List ℕ) (r : Option ℕ) → Progress lags (k * length lags) 0 (at α) (at p) → Round lags α p α' p' r → Progress lags ((k + 1) * length lags) 0 (at α') (at p')
-rounds_more lags k α p α' p' r t round = let e : (k + 1) * length lags ≡ k * length lags + length lags = grind arith in rw e (round.progress (k * length lags) t).progress

@@ -59,7 +59,7 @@ module _ {x y z : ℕ} {v w : ℤ} where
   less_than_adds_right h k = record { so = omega (arith, ints) }
 
 -- a lag above zero raises, and only such a one
-pub above_raises : {x : ℕ} {w : ℤ} → pos 0 <ℤ w → AtLeast x w x → ⊥
+pub above_raises : {x : ℕ} {w : ℤ} → pos 0 <ℤ w → ¬ AtLeast x w x
 above_raises a l = omega (arith, ints)
 
 pub above_from_less : {x : ℕ} {w : ℤ} → LessThan x w x → pos 0 <ℤ w
@@ -80,5 +80,5 @@ called_for h = record { so = grind (arith, ints) }
 pub not_called_for : {x y : ℕ} {w : ℤ} → int_lt (pos y) (pos x +ℤ w) ≡ false → AtLeast x w y
 not_called_for h = record { so = grind (arith, ints) }
 
-pub not_both : {x y : ℕ} {w : ℤ} → AtLeast x w y → LessThan x w y → ⊥
+pub not_both : {x y : ℕ} {w : ℤ} → AtLeast x w y → ¬ LessThan x w y
 not_both h k = omega (arith, ints)

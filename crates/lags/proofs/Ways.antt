@@ -35,5 +35,5 @@ module _ (Between : ℕ → ℕ → ℤ → Type 0) (α : ℕ → ℕ) (keeps : 
   way_rises (more h n) = at_least_adds (record { so = keeps _ _ _ h }) (way_rises n)
 
   -- so there is none where there is a ring
-  pub ring_excludes : (l : List ℕ) → Ring Between l → ⊥
+  pub ring_excludes : (l : List ℕ) → ¬ Ring Between l
   ring_excludes l R = above_raises R.above (way_rises R.round)

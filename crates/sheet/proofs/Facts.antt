@@ -91,7 +91,7 @@ module _ (s : Sheet) where
   pub stops_at_goal : (c : ℕ) (x : Carrier) → slice_get cs c ≡ Some x → x.last_place ≡ x.goal → Visits b x.last_stop c x.goal
   stops_at_goal c x e q = rw q at (latest_of c x e).here
 
-  pub no_stop_at_goal : (c : ℕ) (x : Carrier) → slice_get cs c ≡ Some x → x.last_place ≢ x.goal → (t : ℕ) → Visits b t c x.goal → ⊥
+  pub no_stop_at_goal : (c : ℕ) (x : Carrier) → slice_get cs c ≡ Some x → x.last_place ≢ x.goal → (t : ℕ) → ¬ Visits b t c x.goal
   no_stop_at_goal c x e other t v =
       other (Told.at_goal b sound_of c _ _ _ _ (goes_of c x e) (latest_of c x e) (x.goal, (x.start, goes_of c x e), (t, v)))
 

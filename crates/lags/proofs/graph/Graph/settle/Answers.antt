@@ -1,14 +1,11 @@
 use Rattle.std.proofs.Common.{◌∙◌, arith}
 use Rattle.lags.proofs.Ceilings.{earliest}
-use Rattle.lags.proofs.InRounds.{rounds_none, rounds_more}
+use Rattle.lags.proofs.InRounds.{rounds_none}
 use Rattle.lags.proofs.Settles.{overrun}
 use Rattle.lags.proofs.graph.Graph.settle.Goals as goal
 
 pub loop-init : goal.loop-init
 loop-init c = rounds_none _ _ _ c.requires.zero
-
-pub loop-preserved : goal.loop-preserved
-loop-preserved c = rounds_more _ _ _ _ _ _ _ c.loop.invariant c.raise_round.ensures.round
 
 pub returns-in_err-raise_round : goal.returns-in_err-raise_round
 returns-in_err-raise_round c =
