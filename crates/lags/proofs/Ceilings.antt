@@ -1,4 +1,4 @@
--- Where there is a solution, arrivals that were raised only where a lag called for it are at most n - 1 times the greatest weight; and such arrivals that keep every lag are the least.
+-- Where there is a solution, arrivals that were raised only where a lag was not kept are at most n - 1 times the greatest weight; and such arrivals that keep every lag are the least.
 use Rattle.std.proofs.Common.{◌≡◌, ℕ, zero, suc, ◌+◌, ◌-◌, ◌*◌, ◌<◌, ◌≤◌, List, [], ◌∷◌, ◌++◌, length, drop, pos, ◌≤ℤ◌, sym, ⊎_elim, mul-le-mul_right, arith}
 use Rattle.std.proofs.lemmas.Int.{ints}
 use Rattle.std.specs.List.{Contains, All}
@@ -66,7 +66,7 @@ solution_keeps lags β k s t w h = (All-contains (Kept β) lags (record { from =
 pub keeps_solution : (lags : List Lag) (β : ℕ → ℕ) → Solution (Listed lags) β → Keeps lags β
 keeps_solution lags β k = All-weaker (Contains lags) (Kept β) (λ g h. record { so = k g.from g.to g.weight h }) lags (All-contains_itself lags)
 
--- arrivals that keep every lag, and were raised only where a lag called for it, are the least
+-- arrivals that keep every lag, and were raised only where a lag was not kept, are the least
 pub earliest : (lags : List Lag) (base i n : ℕ) (α : List ℕ) (p : ℕ → ℕ) → Progress lags base i (at α) p → Keeps lags (at α) → All (Allowed n) lags → length α ≡ n → Earliest lags α
 earliest lags base i n α p t s allowed l = record {
   least = (solution_keeps lags (at α) s, λ β k. t.under β (keeps_solution lags β k));

@@ -1,4 +1,4 @@
--- What a search by key tells of the book.
+-- What a search by key says of the book.
 use Rattle.std.proofs.Common.{◌≡◌, ℕ, ◌↔◌, List, [], ◌∷◌, get_or, is_some, Some, None, Option, Any, IsTrue, refl, ap, ◌∙◌, arith, rules, MatchOption}
 use Rattle.std.specs.List.{slice_get}
 use Rattle.std.proofs.lemmas.Option.{slice_get-get_or, slice_get_within, get_or_from_slice_get}
