@@ -1,4 +1,4 @@
--- Where there is a solution, arrivals that were raised only where a lag called for it are at most n - 1 times the greatest weight; and such arrivals that keep every lag are the least.
+-- Where there is a solution, arrivals that were raised only where a lag was not kept are at most n - 1 times the greatest weight; and such arrivals that keep every lag are the least.
 use Rattle.std.proofs.Common.{◌≡◌, ℕ, zero, suc, ◌+◌, ◌-◌, ◌*◌, ◌<◌, ◌≤◌, List, [], ◌∷◌, ◌++◌, length, drop, pos, ◌≤ℤ◌, sym, ⊎_elim, mul-le-mul_right, arith}
 use Rattle.std.proofs.lemmas.Int.{ints}
 use Rattle.std.specs.List.{Contains, All}
@@ -26,9 +26,9 @@ module _ (lags : List Lag) (base i : ℕ) (a p : ℕ → ℕ) (t : Progress lags
   Trace v xs x = Traced lags p a t.when v xs x
 
   -- the way back comes to no node twice
-  apart : (v : ℕ) (xs : List ℕ) (x : ℕ) → Trace v xs x → All (λ y. y ≡ x → ⊥) xs
+  apart : (v : ℕ) (xs : List ℕ) (x : ℕ) → Trace v xs x → All (λ y. ¬ y ≡ x) xs
   apart v xs x c =
-      All-from_get_or (λ y. y ≡ x → ⊥) xs 0 (λ k l e.
+      All-from_get_or (λ y. ¬ y ≡ x) xs 0 (λ k l e.
       let r = traced_round lags p a t.when v xs x k c l e in
       let d : 0 < length (drop k xs) = omega (arith, length-drop k xs) in
       above_raises (round_above lags p a t.when x (drop k xs) d r.way r.raised) (back_least lags p a t.when β s x x (drop k xs) r.way r.raised))
@@ -36,8 +36,8 @@ module _ (lags : List Lag) (base i : ℕ) (a p : ℕ → ℕ) (t : Progress lags
   shorter : (v : ℕ) (xs : List ℕ) (x : ℕ) → Trace v xs x → x < n → length xs < n
   shorter v xs x c b =
       let e = ends_inside lags n allowed xs (raised_ends lags p a t.when xs c.raised) in
-      let ne = All-weaker (λ y. y ≡ x → ⊥) (λ y. x ≡ y → ⊥) (λ y h e. h (sym e)) xs (apart v xs x c) in
-      omega (arith, length-le_from_below n (x ∷ xs) (AllPairs-cons (λ x y. x ≡ y → ⊥) x xs ne c.distinct) (All-cons (λ y. y < n) x xs b e))
+      let ne = All-weaker (λ y. ¬ y ≡ x) (λ y. ¬ x ≡ y) (λ y h e. h (sym e)) xs (apart v xs x c) in
+      omega (arith, length-le_from_below n (x ∷ xs) (AllPairs-cons (λ x y. ¬ x ≡ y) x xs ne c.distinct) (All-cons (λ y. y < n) x xs b e))
 
   -- at a node that was never raised the way back ends
   ended : (v : ℕ) (xs : List ℕ) (x : ℕ) → Trace v xs x → x < n → t.when x ≡ 0 → a v ≤ (n - 1) * w
@@ -66,7 +66,7 @@ solution_keeps lags β k s t w h = (All-contains (Kept β) lags (record { from =
 pub keeps_solution : (lags : List Lag) (β : ℕ → ℕ) → Solution (Listed lags) β → Keeps lags β
 keeps_solution lags β k = All-weaker (Contains lags) (Kept β) (λ g h. record { so = k g.from g.to g.weight h }) lags (All-contains_itself lags)
 
--- arrivals that keep every lag, and were raised only where a lag called for it, are the least
+-- arrivals that keep every lag, and were raised only where a lag was not kept, are the least
 pub earliest : (lags : List Lag) (base i n : ℕ) (α : List ℕ) (p : ℕ → ℕ) → Progress lags base i (at α) p → Keeps lags (at α) → All (Allowed n) lags → length α ≡ n → Earliest lags α
 earliest lags base i n α p t s allowed l = record {
   least = (solution_keeps lags (at α) s, λ β k. t.under β (keeps_solution lags β k));

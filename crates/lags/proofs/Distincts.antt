@@ -16,14 +16,14 @@ use Rattle.std.proofs.lemmas.Bool.Decides.{Decides-eqb}
 use Rattle.std.proofs.lemmas.Bool.{cases_lt, both_ways, eqb-true}
 use Rattle.lags.specs.Traced.{Distinct}
 
-pub Distinct-head : (x : ℕ) (xs : List ℕ) → Distinct (x ∷ xs) → All (λ y. x ≡ y → ⊥) xs
+pub Distinct-head : (x : ℕ) (xs : List ℕ) → Distinct (x ∷ xs) → All (λ y. ¬ x ≡ y) xs
 Distinct-head x xs h k d l = h 0 (suc k) d (omega arith) (omega arith)
 
 pub Distinct-tail : (x : ℕ) (xs : List ℕ) → Distinct (x ∷ xs) → Distinct xs
 Distinct-tail x xs h i j d l m = h (suc i) (suc j) d (omega arith) (omega arith)
 
-pub Distinct-push : (xs : List ℕ) (x : ℕ) → Distinct xs → All (λ y. y ≡ x → ⊥) xs → Distinct (xs ++ x ∷ [])
-Distinct-push xs x h n = all_pairs_push (λ x y. x ≡ y → ⊥) xs x h n
+pub Distinct-push : (xs : List ℕ) (x : ℕ) → Distinct xs → All (λ y. ¬ y ≡ x) xs → Distinct (xs ++ x ∷ [])
+Distinct-push xs x h n = all_pairs_push (λ x y. ¬ x ≡ y) xs x h n
 
 pub Distinct-drop : (k : ℕ) (xs : List ℕ) → Distinct xs → Distinct (drop k xs)
 Distinct-drop k xs h i j d l m = rw (get_or-drop k xs i d, get_or-drop k xs j d) (h (k + i) (k + j) d (omega arith) (omega (arith, length-drop k xs)))
@@ -38,8 +38,8 @@ Distinct-permutation xs ys p h = AllPairs-from_IsDistinct Decides-eqb ys (IsDist
 pub Distinct-slice_get : (xs : List ℕ) → Distinct xs → (i j x : ℕ) → slice_get xs i ≡ Some x → slice_get xs j ≡ Some x → i ≡ j
 Distinct-slice_get xs h i j x e f =
     let same = get_or_from_slice_get xs i x 0 e ∙ sym (get_or_from_slice_get xs j x 0 f) in
-    let apart : (i < j) → ⊥ = λ l. h i j 0 l (slice_get_within xs j x f) same in
-    let apart' : (j < i) → ⊥ = λ l. h j i 0 l (slice_get_within xs i x e) (sym same) in
+    let apart : ¬ (i < j) = λ l. h i j 0 l (slice_get_within xs j x f) same in
+    let apart' : ¬ (j < i) = λ l. h j i 0 l (slice_get_within xs i x e) (sym same) in
     ⊎_elim (λ l. absurd (apart l)) (λ l. ⊎_elim (λ k. absurd (apart' k)) (λ k. omega arith) (cases_lt j i)) (cases_lt i j)
 
 -- what is marked lies in the list

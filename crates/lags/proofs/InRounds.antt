@@ -9,7 +9,7 @@ use Rattle.lags.specs.declared.Lag.{Lag}
 use Rattle.lags.specs.Solved.{at, Allowed}
 use Rattle.lags.specs.Times.{LessThan, Exactly, after}
 use Rattle.lags.specs.Progress.{lag_at, no_lag, Kept, Progress, Round, Low, InRound}
-use Rattle.lags.proofs.Times.{after_is, called_for, not_called_for}
+use Rattle.lags.proofs.Times.{after_is, less_than_from_test, at_least_from_test}
 use Rattle.lags.proofs.Raises.{progress_none, progress_round, progress_kept, progress_raised, progress_raised_when}
 
 -- what stands in a list after a write
@@ -17,7 +17,7 @@ module _ (xs : List ℕ) (v x : ℕ) (in' : v < length xs) where
   at_here : (w : ℕ) → w ≡ v → at (set xs v x) w ≡ x
   at_here w e = rw e (get_or-set_same xs v x 0 in')
 
-  at_else : (w : ℕ) → (w ≡ v → ⊥) → at (set xs v x) w ≡ at xs w
+  at_else : (w : ℕ) → (¬ w ≡ v) → at (set xs v x) w ≡ at xs w
   at_else w ne = get_or-set_other xs v w x 0 ne
 
 -- one more lag of a round, which is g
@@ -66,8 +66,8 @@ module _ (lags : List Lag) (α₀ p₀ α p : List ℕ) (i : ℕ) (raised : Opti
   -- as the code has it: the test, and what the arrivals, the parents and the node raised last are then
   pub round_more : (r : Bool) (α' p' : List ℕ) (raised' : Option ℕ) → r ≡ int_lt (pos (at α g.to)) (pos (at α g.from) +ℤ g.weight) → α' ≡ cond r (set α g.to reach) α
       → p' ≡ cond r (set p g.to i) p → raised' ≡ cond r (Some g.to) raised → InRound lags α₀ p₀ α' p' (i + 1) raised'
-  round_more true α' p' raised' e a b q = simp (a, b, q) (step_raised (called_for (sym e)))
-  round_more false α' p' raised' e a b q = simp (a, b, q) (step_kept (not_called_for (sym e)))
+  round_more true α' p' raised' e a b q = simp (a, b, q) (step_raised (less_than_from_test (sym e)))
+  round_more false α' p' raised' e a b q = simp (a, b, q) (step_kept (at_least_from_test (sym e)))
 
 -- the end of a round
 pub round_all : (lags : List Lag) (α₀ p₀ α p : List ℕ) (i : ℕ) (raised : Option ℕ) → i ≡ length lags → InRound lags α₀ p₀ α p i raised → Round lags α₀ p₀ α p raised

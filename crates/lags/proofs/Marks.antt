@@ -24,7 +24,7 @@ ends_below lags n a xs h d = length-le_from_below n xs d (ends_inside lags n a x
 no_mark : (n v : ℕ) → get_or (replicate n false) v false ≡ false
 no_mark n v = ⊎_elim (λ h. get_or-replicate n v false false h) (λ h. get_or_past (replicate n false) v false (omega (arith, length-replicate n false))) (cases_lt v n)
 
-end_none : (v : ℕ) → End [] v → ⊥
+end_none : (v : ℕ) → ¬ End [] v
 end_none v e = omega (arith, e.1.1)
 
 end_before : (lags : List Lag) (i v : ℕ) → i < length lags → End (take i lags) v → End (take (i + 1) lags) v
@@ -33,7 +33,7 @@ end_before lags i v l e = rw (take_more lags i no_lag l) (e.0, Contains-append_l
 end_here : (lags : List Lag) (i : ℕ) → i < length lags → End (take (i + 1) lags) (lag_at lags i).to
 end_here lags i l = rw (take_more lags i no_lag l) (lag_at lags i, Contains-push (take i lags) (lag_at lags i), refl)
 
-end_cases : (lags : List Lag) (i v : ℕ) → i < length lags → (v ≡ (lag_at lags i).to → ⊥) → End (take (i + 1) lags) v → End (take i lags) v
+end_cases : (lags : List Lag) (i v : ℕ) → i < length lags → (¬ v ≡ (lag_at lags i).to) → End (take (i + 1) lags) v → End (take i lags) v
 end_cases lags i v l ne e =
     ⊎_elim (λ h. (e.0, h, e.2)) (λ q. absurd (ne (sym e.2 ∙ sym (ap (λ (g : Lag). g.to) q)))) (Contains-push_cases (take i lags) (lag_at lags i) e.0 (rw (take_more lags i no_lag l) at e.1))
 
@@ -55,7 +55,7 @@ marking_more lags i marks m l b = record {
     here : get_or (set marks (lag_at lags i).to true) (lag_at lags i).to false ≡ true
     here = get_or-set_same marks (lag_at lags i).to true false (omega (arith, m.size))
 
-    other : (v : ℕ) → (v ≡ (lag_at lags i).to → ⊥) → get_or (set marks (lag_at lags i).to true) v false ≡ get_or marks v false
+    other : (v : ℕ) → (¬ v ≡ (lag_at lags i).to) → get_or (set marks (lag_at lags i).to true) v false ≡ get_or marks v false
     other v ne = get_or-set_other marks (lag_at lags i).to v true false ne
 
 pub marking_all : (lags : List Lag) (i : ℕ) (marks : List Bool) (n : ℕ) → Marking lags i marks → length lags ≤ i → n ≡ count_by (λ b. b) marks → EndCount lags n

@@ -39,13 +39,13 @@ placed_more xs places x b q = record {
     here : (y : ℕ) → y ≡ x → get_or (set places x (Some (length xs))) y None ≡ Some (length xs)
     here y e = rw e (get_or-set_same places x (Some (length xs)) None b)
 
-    other : (y : ℕ) → (y ≡ x → ⊥) → get_or (set places x (Some (length xs))) y None ≡ get_or places y None
+    other : (y : ℕ) → (¬ y ≡ x) → get_or (set places x (Some (length xs))) y None ≡ get_or places y None
     other y ne = get_or-set_other places x y (Some (length xs)) None ne
 
 -- a node with no place is none of them
-unplaced : (xs : List ℕ) (places : List (Option ℕ)) (x : ℕ) → Placed xs places → get_or places x None ≡ None → All (λ y. y ≡ x → ⊥) xs
+unplaced : (xs : List ℕ) (places : List (Option ℕ)) (x : ℕ) → Placed xs places → get_or places x None ≡ None → All (λ y. ¬ y ≡ x) xs
 unplaced xs places x q z =
-    All-weaker (λ y. get_or places y None ≢ None) (λ y. y ≡ x → ⊥) (λ y h e. h (ap (λ v. get_or places v None) e ∙ z)) xs q.seen
+    All-weaker (λ y. get_or places y None ≢ None) (λ y. ¬ y ≡ x) (λ y h e. h (ap (λ v. get_or places v None) e ∙ z)) xs q.seen
 
 pub overrun_trace_none : (lags : List Lag) (p : ℕ → ℕ) (v : ℕ) → Overrun lags p v → OverrunTrace lags p v [] v
 overrun_trace_none lags p v o = record {

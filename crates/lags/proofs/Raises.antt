@@ -63,15 +63,15 @@ put f v x w = cond (eqb w v) x (f w)
 -- a lag g that raises the node where it ends from a to a', and becomes its parent
 module _ (lags : List Lag) (base i : ℕ) (a p a' p' : ℕ → ℕ) (t : Progress lags base i a p) (in' : i < length lags) (g : Lag) (is : lag_at lags i ≡ g)
     (light : g.weight ≤ℤ pos 100000) (short : LessThan (a g.from) g.weight (a g.to))
-    (a_here : (v : ℕ) → v ≡ g.to → Exactly (a g.from) g.weight (a' v)) (a_else : (v : ℕ) → (v ≡ g.to → ⊥) → a' v ≡ a v)
-    (p_here : (v : ℕ) → v ≡ g.to → p' v ≡ i) (p_else : (v : ℕ) → (v ≡ g.to → ⊥) → p' v ≡ p v) where
+    (a_here : (v : ℕ) → v ≡ g.to → Exactly (a g.from) g.weight (a' v)) (a_else : (v : ℕ) → (¬ v ≡ g.to) → a' v ≡ a v)
+    (p_here : (v : ℕ) → v ≡ g.to → p' v ≡ i) (p_else : (v : ℕ) → (¬ v ≡ g.to) → p' v ≡ p v) where
   abbrev when' : ℕ → ℕ
   when' = put t.when g.to (base + i + 1)
 
   w_here : (v : ℕ) → v ≡ g.to → when' v ≡ base + i + 1
   w_here v e = rw (eq-eqb v g.to e)
 
-  w_else : (v : ℕ) → (v ≡ g.to → ⊥) → when' v ≡ t.when v
+  w_else : (v : ℕ) → (¬ v ≡ g.to) → when' v ≡ t.when v
   w_else v ne = rw (ne_eqb v g.to ne)
 
   w_up : (v : ℕ) → t.when v ≤ when' v
@@ -103,7 +103,7 @@ module _ (lags : List Lag) (base i : ℕ) (a p a' p' : ℕ → ℕ) (t : Progres
       caused : length lags ≤ base → base + i < t.when g.from + length lags
       caused b = ⊎_elim (λ k. absurd (not_both (rw is at k) short)) (λ k. rw is at k) (t.late i in' b)
 
-  old_parent : (v : ℕ) (h : Lag) → (v ≡ g.to → ⊥) → RaisedBy a t.when (length lags) v h → RaisedBy a' when' (length lags) v h
+  old_parent : (v : ℕ) (h : Lag) → (¬ v ≡ g.to) → RaisedBy a t.when (length lags) v h → RaisedBy a' when' (length lags) v h
   old_parent v h ne q = record {
     ends = q.ends;
     tight = rw (a_else v ne) (at_most_later (a_up h.from) q.tight);
@@ -115,7 +115,7 @@ module _ (lags : List Lag) (base i : ℕ) (a p a' p' : ℕ → ℕ) (t : Progres
   }
 
   -- a lag from elsewhere stays kept
-  stays_kept : (h : Lag) → (h.from ≡ g.to → ⊥) → Kept a h → Kept a' h
+  stays_kept : (h : Lag) → (¬ h.from ≡ g.to) → Kept a h → Kept a' h
   stays_kept h ne k = rw (a_else h.from ne) (at_least_later (a_up h.to) k)
 
   pub progress_raised : Progress lags base (i + 1) a' p'
@@ -137,7 +137,7 @@ module _ (lags : List Lag) (base i : ℕ) (a p a' p' : ℕ → ℕ) (t : Progres
     early = λ j h. ⊎_elim
         (λ e. inr (omega (arith, w_here (lag_at lags j).from e)))
         (λ ne. ⊎_elim
-        (λ e. inl (subst (Kept a') (sym (ap (lag_at lags) e ∙ is)) (kept_now (subst (λ f. f.from ≡ g.to → ⊥) (ap (lag_at lags) e ∙ is) ne))))
+        (λ e. inl (subst (Kept a') (sym (ap (lag_at lags) e ∙ is)) (kept_now (subst (λ f. ¬ f.from ≡ g.to) (ap (lag_at lags) e ∙ is) ne))))
         (λ nj. ⊎_elim (λ k. inl (stays_kept (lag_at lags j) ne k)) (λ k. inr (omega (arith, w_else (lag_at lags j).from ne))) (t.early j (omega arith)))
         (cases_eq j i))
         (cases_eq (lag_at lags j).from g.to);
@@ -147,7 +147,7 @@ module _ (lags : List Lag) (base i : ℕ) (a p a' p' : ℕ → ℕ) (t : Progres
         (cases_eq (lag_at lags j).from g.to);
   }
     where
-      kept_now : (g.from ≡ g.to → ⊥) → Kept a' g
+      kept_now : (¬ g.from ≡ g.to) → Kept a' g
       kept_now ne = rw (a_else g.from ne) (exactly_at_least (a_here g.to refl))
 
   pub progress_raised_when : progress_raised.when g.to ≡ base + i + 1

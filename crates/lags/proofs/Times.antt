@@ -59,13 +59,13 @@ module _ {x y z : ℕ} {v w : ℤ} where
   less_than_adds_right h k = record { so = omega (arith, ints) }
 
 -- a lag above zero raises, and only such a one
-pub above_raises : {x : ℕ} {w : ℤ} → pos 0 <ℤ w → AtLeast x w x → ⊥
+pub above_raises : {x : ℕ} {w : ℤ} → pos 0 <ℤ w → ¬ AtLeast x w x
 above_raises a l = omega (arith, ints)
 
 pub above_from_less : {x : ℕ} {w : ℤ} → LessThan x w x → pos 0 <ℤ w
 above_from_less l = omega (arith, ints)
 
--- the time after a lag that calls for a later one
+-- the time after a lag that is not kept
 pub after_is : {x y : ℕ} {w : ℤ} → LessThan x w y → Exactly x w (after x w)
 after_is {x} {y} {w} h = record { so = is x y w h.so }
   where
@@ -73,12 +73,12 @@ after_is {x} {y} {w} h = record { so = is x y w h.so }
     is x y (pos n) h = refl
     is x y (negsuc n) h = omega (arith, ints)
 
--- the test whether a lag calls for a later time
-pub called_for : {x y : ℕ} {w : ℤ} → int_lt (pos y) (pos x +ℤ w) ≡ true → LessThan x w y
-called_for h = record { so = grind (arith, ints) }
+-- the test whether a lag is not kept
+pub less_than_from_test : {x y : ℕ} {w : ℤ} → int_lt (pos y) (pos x +ℤ w) ≡ true → LessThan x w y
+less_than_from_test h = record { so = grind (arith, ints) }
 
-pub not_called_for : {x y : ℕ} {w : ℤ} → int_lt (pos y) (pos x +ℤ w) ≡ false → AtLeast x w y
-not_called_for h = record { so = grind (arith, ints) }
+pub at_least_from_test : {x y : ℕ} {w : ℤ} → int_lt (pos y) (pos x +ℤ w) ≡ false → AtLeast x w y
+at_least_from_test h = record { so = grind (arith, ints) }
 
-pub not_both : {x y : ℕ} {w : ℤ} → AtLeast x w y → LessThan x w y → ⊥
+pub not_both : {x y : ℕ} {w : ℤ} → AtLeast x w y → ¬ LessThan x w y
 not_both h k = omega (arith, ints)

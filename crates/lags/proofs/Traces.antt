@@ -75,7 +75,7 @@ module _ (lags : List Lag) (p : ℕ → ℕ) where
     traced_none v = record { way = refl; raised = All-nil (ByParent lags p a when); distinct = λ i j d l m. absurd (omega arith) }
 
     -- one node further back
-    pub traced_more : (v : ℕ) (xs : List ℕ) (x : ℕ) → Traced lags p a when v xs x → ByParent lags p a when x → All (λ y. y ≡ x → ⊥) xs
+    pub traced_more : (v : ℕ) (xs : List ℕ) (x : ℕ) → Traced lags p a when v xs x → ByParent lags p a when x → All (λ y. ¬ y ≡ x) xs
         → Traced lags p a when v (xs ++ x ∷ []) (parent lags p x).from
     traced_more v xs x t q ne =
         record { way = back_push v x xs t.way; raised = All-push (ByParent lags p a when) xs x t.raised q; distinct = Distinct-push xs x t.distinct ne }

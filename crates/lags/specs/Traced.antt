@@ -71,6 +71,10 @@ module _ (lags : List Lag) (p : ℕ → ℕ) where
     pub traced : Traced a when node xs node
     pub some : 0 < length xs
 
+-- the nodes are a way back to where it began, along some parents
+abbrev pub Cycle : List Lag → List ℕ → Type 0
+Cycle lags xs = (p : ℕ → ℕ) × ParentCycle lags p xs
+
 -- the places have for each node where it stands in xs, and none for every other
 pub record Placed (xs : List ℕ) (places : List (Option ℕ)) : Type 0 where
   pub seen : All (λ y. slice_index_or places y None ≢ None) xs

@@ -1,12 +1,11 @@
 // The graph of the lags, and the rounds through it, which raise arrivals until every lag is kept.
-ghost use Rattle.std.specs.Prelude.{◌≡◌, ℕ, ◌+◌, ◌^◌, ◌<◌, ◌≤◌, ◌↔◌, length, pos, ◌+ℤ◌, All, IsTrue, IsSome, IfSome, None, MatchOption, if◌then◌else◌, int_lt, slice_set};
+ghost use Rattle.std.specs.Prelude.{◌≡◌, ℕ, ◌+◌, ◌^◌, ◌<◌, ◌≤◌, ◌↔◌, length, pos, ◌+ℤ◌, All, IsTrue, IsSome, IfSome, MatchOption, if◌then◌else◌, int_lt, slice_set};
 ghost use Rattle.lags.specs.Progress.{Low, Round};
-ghost use Rattle.lags.specs.Solved.{Allowed, Earliest, Inside, Looped, at};
+ghost use Rattle.lags.specs.Solved.{Allowed, Earliest, Inside, at};
 ghost use Rattle.lags.specs.Times.{after};
-ghost use Rattle.lags.specs.Traced.{EndCount, Overrun, ParentCycle};
+ghost use Rattle.lags.specs.Traced.{Cycle, EndCount, Overrun, ParentCycle};
 
 use crate::{Lag, MOST_LAGS, MOST_NODES};
-use crate::rings::write_from_lowest;
 use arrayvec::ArrayVec;
 
 // The most that a weight may be above or below 0.
@@ -33,10 +32,10 @@ fn is_allowed(nodes: usize, lag: Lag) -> bool
 
 // Raises the arrival where the lag ends, if it is too early for the lag, notes the lag's number as what raised it, and
 // says whether it did. Times go by `as`, since no `From` leads from u64 to i64 or back; it loses nothing, as is proved.
-fn raise(lag: Lag, number: u16, arrivals: &mut [u64], parents: &mut [u16; MOST_NODES]) -> bool
+fn raise(lag: Lag, number: usize, arrivals: &mut [u64], parents: &mut [usize; MOST_NODES]) -> bool
     requires inside { Inside (length arrivals.old) lag }
     requires few { length arrivals.old ≤ 1024 }
-    requires low { (at arrivals.old lag.from ≤ 2 ^ 60) × (at arrivals.old lag.to ≤ 2 ^ 60) }
+    requires low { Low arrivals.old (2 ^ 60) }
     ensures test { result
         ≡ int_lt (pos (at arrivals.old lag.to)) (pos (at arrivals.old lag.from) +ℤ lag.weight) }
     ensures arrives { arrivals.new
@@ -60,7 +59,8 @@ impl<'a> Graph<'a> {
     pub(crate) fn new(lags: &'a [Lag], nodes: usize) -> Option<Self>
         ensures fits { IsSome result
             ↔ (nodes ≤ 1024) × (length lags.now ≤ 3072) × All (Allowed nodes) lags.now }
-        ensures same { IfSome result (λ g. (g.lags.now ≡ lags.now) × (g.nodes ≡ nodes)) }
+        ensures lags { IfSome result (λ g. g.lags.now ≡ lags.now) }
+        ensures nodes { IfSome result (λ g. g.nodes ≡ nodes) }
     {
         let is_fit = nodes <= MOST_NODES
             && lags.len() <= MOST_LAGS
@@ -85,7 +85,7 @@ impl<'a> Graph<'a> {
     }
 
     // Goes through the lags once, and gives the node that was raised last, if any was.
-    fn raise_round(&self, arrivals: &mut [u64], parents: &mut [u16; MOST_NODES]) -> Option<u16>
+    fn raise_round(&self, arrivals: &mut [u64], parents: &mut [usize; MOST_NODES]) -> Option<u16>
         requires nodes { length arrivals.old ≡ self.now.nodes }
         requires low { Low arrivals.old (2 ^ 59) }
         ensures round { Round self.now.lags.now arrivals.old parents.old arrivals.new parents.new result }
@@ -93,7 +93,7 @@ impl<'a> Graph<'a> {
     {
         let mut raised = None;
         for (number, lag) in self.lags.iter().enumerate() {
-            if raise(*lag, number as u16, arrivals, parents) {
+            if raise(*lag, number, arrivals, parents) {
                 raised = Some(lag.to);
             }
         }
@@ -102,27 +102,27 @@ impl<'a> Graph<'a> {
 
     // Makes rounds from arrivals that are all 0 until one raises nothing, but at most one more than there are nodes at
     // which a lag ends.
-    // Gives the node that the last of them raised last, if it raised any.
-    pub(crate) fn settle(
-        &self,
-        arrivals: &mut [u64],
-        parents: &mut [u16; MOST_NODES],
-    ) -> Option<u16>
+    // If the last of them raised a node, gives the nodes of a ring, each before the one from which it is reached.
+    pub(crate) fn settle(&self, arrivals: &mut [u64]) -> Option<ArrayVec<u16, MOST_NODES>>
         requires nodes { length arrivals.old ≡ self.now.nodes }
         requires zero { Low arrivals.old 0 }
         ensures { MatchOption result
             (Earliest self.now.lags.now arrivals.new)
-            (λ v. Overrun self.now.lags.now (at parents.new) v × (v < self.now.nodes)) }
+            (λ nodes. Cycle self.now.lags.now nodes.items) }
     {
+        // The number of the lag that raised each node last. No number stands for "none": a node that was never raised is
+        // never read, as is proved, and an Option would be a test that never fails.
+        let mut parents = [0; MOST_NODES];
         for _ in 0..self.count_ends() {
-            self.raise_round(arrivals, parents)?;
+            self.raise_round(arrivals, &mut parents)?;
         }
-        self.raise_round(arrivals, parents)
+        let last = self.raise_round(arrivals, &mut parents)?;
+        Some(self.trace_back(&parents, last))
     }
 
     // Goes back from `start`, from each node to the one that raised it last, until a node is met again.
     // Gives the nodes from the first time that it was met, in this order.
-    fn trace_back(&self, parents: &[u16; MOST_NODES], start: u16) -> ArrayVec<u16, MOST_NODES>
+    fn trace_back(&self, parents: &[usize; MOST_NODES], start: u16) -> ArrayVec<u16, MOST_NODES>
         requires inside { start < self.now.nodes }
         requires over { Overrun self.now.lags.now (at parents.now) start }
         ensures { ParentCycle self.now.lags.now (at parents.now) result.items }
@@ -137,24 +137,7 @@ impl<'a> Graph<'a> {
             }
             places[usize::from(node)] = Some(nodes.len());
             nodes.push(node);
-            node = self.lags[usize::from(parents[usize::from(node)])].from;
+            node = self.lags[parents[usize::from(node)]].from;
         }
-    }
-
-    // Writes the ring to which the way back from `start` leads, and gives its length.
-    pub(crate) fn write_ring(
-        &self,
-        parents: &[u16; MOST_NODES],
-        start: u16,
-        ring: &mut [u16],
-    ) -> u16
-        requires inside { start < self.now.nodes }
-        requires room { self.now.nodes ≤ length ring.old }
-        requires over { Overrun self.now.lags.now (at parents.now) start }
-        ensures { Looped self.now.lags.now self.now.nodes result ring.old ring.new }
-    {
-        let cycle = self.trace_back(parents, start);
-        write_from_lowest(&cycle, ring);
-        cycle.len() as u16
     }
 }

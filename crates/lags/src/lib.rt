@@ -4,6 +4,7 @@
 ghost use Rattle.lags.specs.Solved.{Solved};
 
 use graph::Graph;
+use rings::write_from_lowest;
 
 mod graph;
 mod rings;
@@ -42,13 +43,13 @@ pub fn solve(lags: &[Lag], arrivals: &mut [u64], ring: &mut [u16]) -> Result<(),
     }
     let graph = Graph::new(lags, arrivals.len()).ok_or(Unsolved::Unfit)?;
     arrivals.fill(0);
-    // The number of the lag that raised each node last, beside the arrivals, which are the caller's. No number stands for
-    // "none": a node that was never raised is never read, as is proved, and an Option would be a test that never fails.
-    let mut parents = [0; MOST_NODES];
-    match graph.settle(arrivals, &mut parents) {
+    match graph.settle(arrivals) {
         None => Ok(()),
-        Some(node) => Err(Unsolved::Ring {
-            length: graph.write_ring(&parents, node, ring),
-        }),
+        Some(nodes) => {
+            write_from_lowest(&nodes, ring);
+            Err(Unsolved::Ring {
+                length: nodes.len() as u16,
+            })
+        }
     }
 }

@@ -22,7 +22,7 @@ module _ (lanes : Lanes) (gap : Gaps) (b : Book) (positive : Positive lanes) (or
       ]
 
   -- where two stops are set head on, no plan is good
-  no_plan : (s t : ℕ) → Opposed lanes b s t → (α : ℕ → ℕ) → Good lanes gap b α → ⊥
+  no_plan : (s t : ℕ) → Opposed lanes b s t → (α : ℕ → ℕ) → ¬ Good lanes gap b α
   no_plan s t o α good =
       let c = o.c in
       let e = o.e in
@@ -63,7 +63,7 @@ module _ (lanes : Lanes) (gap : Gaps) (b : Book) (positive : Positive lanes) (or
     keeps : Keeps lanes b α
     keeps k first second u s t v d r stands leg visits = let far = clear k first second s u t v d r stands leg visits in omega arith
 
-    module _ (complete : Complete lanes b) (not_opposed : (s t : ℕ) → Opposed lanes b s t → ⊥) where
+    module _ (complete : Complete lanes b) (not_opposed : (s t : ℕ) → ¬ Opposed lanes b s t) where
       -- who goes first has left before the second arrives
       passes : (k c e s r u : ℕ) → Stands b k c e u → Visits b s c u → Visits b r e u → (t v d : ℕ) × (Leg lanes b c s u t v d × ((α s ≤ α t - d) × (α t - d < α r)))
       passes k c e s r u stands here there =
@@ -73,14 +73,14 @@ module _ (lanes : Lanes) (gap : Gaps) (b : Book) (positive : Positive lanes) (or
           let way = timed.travels c s u on.0 on.1 on.2 leg in
           (on.0, on.1, on.2, (leg, (omega arith, omega arith)))
 
-      gone : (k c e s r u tick : ℕ) → Stands b k c e u → Visits b s c u → Visits b r e u → ((t v d : ℕ) → Leg lanes b c s u t v d → tick ≤ α t - d) → α r ≤ tick → ⊥
+      gone : (k c e s r u tick : ℕ) → Stands b k c e u → Visits b s c u → Visits b r e u → ((t v d : ℕ) → Leg lanes b c s u t v d → tick ≤ α t - d) → ¬ α r ≤ tick
       gone k c e s r u tick stands here there stays late =
           let p = passes k c e s r u stands here there in
           let till = stays p.0 p.1 p.2 p.3.0 in
           let then = p.3.1 in
           omega arith
 
-      free : Conflict lanes gap b α → ⊥
+      free : ¬ Conflict lanes gap b α
       free (at_one_place c e s r u tick other here there) =
           let k = complete.decided c e s r u other here.here there.here in
           ⊎_elim

@@ -65,7 +65,7 @@ module _ (lanes : Lanes) (gap : Gaps) (b : Book) where
   pub record Good (α : ℕ → ℕ) : Type 0 where
     pub timed : Timed lanes b α
     pub keeps : Keeps lanes b α
-    pub free : Conflict α → ⊥
+    pub free : ¬ Conflict α
 
   -- a good plan, and every good plan has each arrival at least as late
   pub record Earliest (α : ℕ → ℕ) : Type 0 where

@@ -22,11 +22,11 @@ pub record LagsDecideIn (lanes : Lanes) (gap : Gaps) (b : Book) : Type 0 where
   -- a good plan keeps every lag
   pub good_keeps : (α : ℕ → ℕ) → Good lanes gap b α → Solution (Lag lanes gap b) α
   -- where nothing is set head on, arrivals that keep every lag and begin at 0 are a good plan
-  pub kept_good : Complete lanes b → ((s t : ℕ) → Opposed lanes b s t → ⊥) → (α : ℕ → ℕ) → FromZero b α → Solution (Lag lanes gap b) α → Good lanes gap b α
+  pub kept_good : Complete lanes b → ((s t : ℕ) → ¬ Opposed lanes b s t) → (α : ℕ → ℕ) → FromZero b α → Solution (Lag lanes gap b) α → Good lanes gap b α
   -- where two stops are set head on, no plan is good
-  pub opposed_none : (s t : ℕ) → Opposed lanes b s t → (α : ℕ → ℕ) → Good lanes gap b α → ⊥
+  pub opposed_none : (s t : ℕ) → Opposed lanes b s t → (α : ℕ → ℕ) → ¬ Good lanes gap b α
   -- where there is a ring, no plan is good
-  pub ring_none : (l : List ℕ) → Ring (Lag lanes gap b) l → (α : ℕ → ℕ) → Good lanes gap b α → ⊥
+  pub ring_none : (l : List ℕ) → Ring (Lag lanes gap b) l → (α : ℕ → ℕ) → ¬ Good lanes gap b α
 
 abbrev pub LagsDecide : Type 0
 LagsDecide = (lanes : Lanes) (gap : Gaps) (b : Book) → Positive lanes → Orderly lanes b → LagsDecideIn lanes gap b

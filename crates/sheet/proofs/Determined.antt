@@ -16,7 +16,7 @@ one_refusal no_more e e' p q = absurd p
 one_refusal (check P own cs) e e' p q = grind (arith, one_refusal cs e e')
 
 -- what is refused is not accepted
-not_both : (cs : Checks) (e : EntryRefusal) → Refuses cs e → Accepts cs → ⊥
+not_both : (cs : Checks) (e : EntryRefusal) → Refuses cs e → ¬ Accepts cs
 not_both no_more e p q = p
 not_both (check P own cs) e p q = grind (arith, not_both cs e)
 

@@ -1,4 +1,4 @@
--- What a sheet tells of its book: the facts on which judging builds.
+-- What a sheet says of its book: the facts on which judging builds.
 use Rattle.std.proofs.Common.{◌≡◌, ℕ, zero, suc, ◌<◌, ◌≤◌, ◌≢◌, ◌⊎◌, List, length, get_or, Some, None, Option, refl, inl, inr, ⊎_elim, arith, rules}
 use mathlib.Core.Logic.{∥∥₁_elim}
 use native.Mathlib.Nat.{ℕ_set}
@@ -91,7 +91,7 @@ module _ (s : Sheet) where
   pub stops_at_goal : (c : ℕ) (x : Carrier) → slice_get cs c ≡ Some x → x.last_place ≡ x.goal → Visits b x.last_stop c x.goal
   stops_at_goal c x e q = rw q at (latest_of c x e).here
 
-  pub no_stop_at_goal : (c : ℕ) (x : Carrier) → slice_get cs c ≡ Some x → x.last_place ≢ x.goal → (t : ℕ) → Visits b t c x.goal → ⊥
+  pub no_stop_at_goal : (c : ℕ) (x : Carrier) → slice_get cs c ≡ Some x → x.last_place ≢ x.goal → (t : ℕ) → ¬ Visits b t c x.goal
   no_stop_at_goal c x e other t v =
       other (Told.at_goal b sound_of c _ _ _ _ (goes_of c x e) (latest_of c x e) (x.goal, (x.start, goes_of c x e), (t, v)))
 
@@ -151,21 +151,21 @@ module _ (s : Sheet) where
       (some_or_none x.0.previous)
 
   -- a stop that is not its carrier's latest has a next one
-  walk_back : (c a u : ℕ) → Visits b a c u → (n t v : ℕ) → t < n → a < t → Visits b t c v → (r w : ℕ) × Next b c a u r w
-  walk_back c a u at zero t v l m z = absurd (omega arith)
-  walk_back c a u at (suc n) t v l m z =
-      grind (arith, first_or_next t c v z, one_visit, walk_back c a u at n)
+  next_below : (c a u : ℕ) → Visits b a c u → (n t v : ℕ) → t < n → a < t → Visits b t c v → (r w : ℕ) × Next b c a u r w
+  next_below c a u at zero t v l m z = absurd (omega arith)
+  next_below c a u at (suc n) t v l m z =
+      grind (arith, first_or_next t c v z, one_visit, next_below c a u at n)
 
   pub has_next : (c a u t v : ℕ) → Visits b a c u → Visits b t c v → a < t → (r w : ℕ) × Next b c a u r w
-  has_next c a u t v at z l = walk_back c a u at (suc t) t v (omega arith) l z
+  has_next c a u t v at z l = next_below c a u at (suc t) t v (omega arith) l z
 
   -- a carrier with a stop has a first stop
-  walk_home : (c n t v : ℕ) → t < n → Visits b t c v → (r w : ℕ) × Starts b c r w
-  walk_home c zero t v l z = absurd (omega arith)
-  walk_home c (suc n) t v l z =
+  start_below : (c n t v : ℕ) → t < n → Visits b t c v → (r w : ℕ) × Starts b c r w
+  start_below c zero t v l z = absurd (omega arith)
+  start_below c (suc n) t v l z =
       ⊎_elim
       (λ first. (t, v, first))
-      (λ (p, w, on). let k = on.later in walk_home c n p w (omega arith) on.here)
+      (λ (p, w, on). let k = on.later in start_below c n p w (omega arith) on.here)
       (first_or_next t c v z)
 
   -- the first stop of a carrier is at its start
@@ -177,8 +177,8 @@ module _ (s : Sheet) where
   first_stop c u v g =
       let x = goes_from c u v g in
       let late = latest_of c x.0 x.1 in
-      let home = walk_home c (suc x.0.last_stop) _ _ (omega arith) late.here in
-      (home.0, grind (arith, home, starts_at_start c home.0 home.1 u home.2 (v, g)))
+      let first = start_below c (suc x.0.last_stop) _ _ (omega arith) late.here in
+      (first.0, grind (arith, first, starts_at_start c first.0 first.1 u first.2 (v, g)))
 
   -- a carrier that stops somewhere is on the sheet
   pub goes : (t c u : ℕ) → Visits b t c u → (v w : ℕ) × Goes b c v w

@@ -1,4 +1,4 @@
--- What a search by key tells of the book.
+-- What a search by key says of the book.
 use Rattle.std.proofs.Common.{◌≡◌, ℕ, ◌↔◌, List, [], ◌∷◌, get_or, is_some, Some, None, Option, Any, IsTrue, refl, ap, ◌∙◌, arith, rules, MatchOption}
 use Rattle.std.specs.List.{slice_get}
 use Rattle.std.proofs.lemmas.Option.{slice_get-get_or, slice_get_within, get_or_from_slice_get}
@@ -27,7 +27,7 @@ module _ {R K : Type 0} (key : R → K) (wanted : K) where
   found_record [] i f = absurd (omega (arith, f.0))
   found_record (x ∷ xs) i f = (get_or (x ∷ xs) i x, slice_get-get_or (x ∷ xs) i x f.0, f.1 x)
 
-  nowhere_record : (xs : List R) → Nowhere key wanted xs → (i : ℕ) → HasKey xs i → ⊥
+  nowhere_record : (xs : List R) → Nowhere key wanted xs → (i : ℕ) → ¬ HasKey xs i
   nowhere_record xs none i (x, e, q) =
       none i x (omega arith) (slice_get_within xs i x e) (ap key (get_or_from_slice_get xs i x x e) ∙ q)
 
@@ -53,7 +53,7 @@ module _ {R K : Type 0} (key : R → K) (wanted : K) where
       λ (i, at). any_from_key xs i ((told i).1 at),
     )
 
-    find_told : (r : Option ℕ) → MatchOption r (Nowhere key wanted xs) (First key wanted xs) → MatchOption r ((i : ℕ) × In i → ⊥) In
+    find_told : (r : Option ℕ) → MatchOption r (Nowhere key wanted xs) (First key wanted xs) → MatchOption r (¬ ((i : ℕ) × In i)) In
     find_told None none = λ (i, at). nowhere_record xs none i ((told i).1 at)
     find_told (Some i) f = (told i).0 (found_record xs i f)
 
@@ -103,8 +103,8 @@ module _ (t : Tables) where
   standing c e u = any_told order_key _ t.precedences (λ k. Stands (book_of t) k c e u) (λ k. order_told k c e u)
 
   -- what a search tells
-  pub stop_found : (r : Option ℕ) (c u : ℕ) → MatchOption r (Nowhere visit_key (record { carrier = c; place = u }) t.stops) (First visit_key (record { carrier = c; place = u }) t.stops) → MatchOption r (OnRoute (book_of t) c u → ⊥) (λ s. Visits (book_of t) s c u)
+  pub stop_found : (r : Option ℕ) (c u : ℕ) → MatchOption r (Nowhere visit_key (record { carrier = c; place = u }) t.stops) (First visit_key (record { carrier = c; place = u }) t.stops) → MatchOption r (¬ OnRoute (book_of t) c u) (λ s. Visits (book_of t) s c u)
   stop_found r c u = find_told visit_key _ t.stops (λ s. Visits (book_of t) s c u) (λ s. visit_told s c u) r
 
-  pub precedence_found : (r : Option ℕ) (c e u : ℕ) → MatchOption r (Nowhere order_key (record { first = c; second = e; place = u }) t.precedences) (First order_key (record { first = c; second = e; place = u }) t.precedences) → MatchOption r (Standing (book_of t) c e u → ⊥) (λ k. Stands (book_of t) k c e u)
+  pub precedence_found : (r : Option ℕ) (c e u : ℕ) → MatchOption r (Nowhere order_key (record { first = c; second = e; place = u }) t.precedences) (First order_key (record { first = c; second = e; place = u }) t.precedences) → MatchOption r (¬ Standing (book_of t) c e u) (λ k. Stands (book_of t) k c e u)
   precedence_found r c e u = find_told order_key _ t.precedences (λ k. Stands (book_of t) k c e u) (λ k. order_told k c e u) r

@@ -75,7 +75,7 @@ module _ (cs cs' : List Carrier) (ss : List Stop) (y : Stop) (ps ps' : List Prec
   }
 
   -- of another carrier than the new stop's
-  pub latest_kept : (c s u : ℕ) → (y.carrier ≡ c → ⊥) → Latest before c s u → Latest after c s u
+  pub latest_kept : (c s u : ℕ) → (¬ y.carrier ≡ c) → Latest before c s u → Latest after c s u
   latest_kept c s u other at = search (rules, visits_kept, visits_cases)
 
   -- the new stop is its carrier's latest

@@ -26,7 +26,7 @@ module _ {X : Type 0} where
   slice_get-remove (y ∷ xs) (suc k) (suc i) x e l = let from = slice_get-remove xs k i x e (omega arith) in (suc from.0, from.1, grind (arith, from.2))
 
   -- one record changed
-  pub slice_get-set_cases : (xs : List X) (k i : ℕ) (y x : X) → slice_get (set xs k y) i ≡ Some x → ((i ≡ k → ⊥) × (slice_get xs i ≡ Some x)) ⊎ ((i ≡ k) × (y ≡ x))
+  pub slice_get-set_cases : (xs : List X) (k i : ℕ) (y x : X) → slice_get (set xs k y) i ≡ Some x → ((¬ i ≡ k) × (slice_get xs i ≡ Some x)) ⊎ ((i ≡ k) × (y ≡ x))
   slice_get-set_cases [] k i y x e = absurd (none-some x e)
   slice_get-set_cases (z ∷ xs) zero zero y x e = grind arith
   slice_get-set_cases (z ∷ xs) zero (suc i) y x e = grind arith

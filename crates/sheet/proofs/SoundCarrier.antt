@@ -38,10 +38,10 @@ module _ (b : Book) (sound : Sound b) (start goal : ℕ) (free : Accepts (checks
   begins c u v (inr n) = ∣ (length b.stops, rw (n.0, ← n.1) new_starts) ∣₁
 
   -- no carrier has the new one's start or goal
-  new_start : (c v : ℕ) → Goes b c start v → ⊥
+  new_start : (c v : ℕ) → ¬ Goes b c start v
   new_start c v g = free.1.1.0 (inl (c, (v, g)))
 
-  new_goal : (c u : ℕ) → Goes b c u goal → ⊥
+  new_goal : (c u : ℕ) → ¬ Goes b c u goal
   new_goal c u g = free.1.1.0 (inr (c, (u, g)))
 
   pub sound_carrier : Sound after

@@ -23,7 +23,7 @@ module _ (b : Book) (sound : Sound b) (carrier place : ℕ) (free : Accepts (che
   starts_on c s u at = search (rules, visits, slice_get-push, slice_get_within)
 
   -- the carrier's route has not reached its goal
-  unfinished : (s u : ℕ) → GoalOf b carrier u → Visits b s carrier u → ⊥
+  unfinished : (s u : ℕ) → GoalOf b carrier u → ¬ Visits b s carrier u
   unfinished s u g v = free.1.1.0 (u, g, (s, v))
 
   pub sound_stop : Sound after

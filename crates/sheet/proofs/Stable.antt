@@ -20,7 +20,7 @@ same {m} {n} h = ∥∥₁_elim h (ℕ_set m n) (λ e. e)
 ordered : {m n : ℕ} → Holds (m ≤ n) → m ≤ n
 ordered h = ∥∥₁_elim h le_prop (λ l. l)
 
-never : Holds ⊥ → ⊥
+never : ¬ Holds ⊥
 never h = ∥∥₁_elim h ⊥_prop (λ x. x)
 
 held : {P : Type 0} → Holds (Holds P) → Holds P

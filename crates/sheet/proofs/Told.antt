@@ -22,7 +22,7 @@ module _ (t : Tables) (c : ℕ) (x : Carrier) (read : slice_get t.carriers c ≡
   goes_told = slice_get-map_some book_carrier t.carriers c x read
 
   -- it is on the sheet
-  pub known_told : Unknown (book_of t) c → ⊥
+  pub known_told : ¬ Unknown (book_of t) c
   known_told past = let l = slice_get_within (map book_carrier t.carriers) c _ goes_told in omega arith
 
   -- its start, and its goal

@@ -65,14 +65,14 @@ pub record Next (b : Book) (c s u t v : ℕ) : Type 0 where
   pub here : Visits b s c u
   pub there : Visits b t c v
   pub later : s < t
-  pub none_between : (r w : ℕ) → s < r → r < t → Visits b r c w → ⊥
+  pub none_between : (r w : ℕ) → s < r → r < t → ¬ Visits b r c w
 
 -- stop s, at u, is the first of carrier c
 pub record Starts (b : Book) (c s u : ℕ) : Type 0 where
   pub here : Visits b s c u
-  pub first : (r w : ℕ) → r < s → Visits b r c w → ⊥
+  pub first : (r w : ℕ) → r < s → ¬ Visits b r c w
 
 -- stop s, at u, is the latest of carrier c
 pub record Latest (b : Book) (c s u : ℕ) : Type 0 where
   pub here : Visits b s c u
-  pub last : (r w : ℕ) → s < r → Visits b r c w → ⊥
+  pub last : (r w : ℕ) → s < r → ¬ Visits b r c w

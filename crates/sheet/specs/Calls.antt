@@ -71,25 +71,25 @@ checks b (enter_stop c u) =
     no_more))))
 checks b (enter_precedence first second u) =
     pair_checks b first second
-    (check ((OnRoute b first u → ⊥) ⊎ (OnRoute b second u → ⊥)) NotOnBothRoutes
+    (check ((¬ OnRoute b first u) ⊎ (¬ OnRoute b second u)) NotOnBothRoutes
     (check (GoalOf b first u ⊎ StartOf b second u) FirstsGoalOrSecondsStart
     (check (Decided b first second u) AlreadyDecided
     (check (PrecedencesFull b) LimitReached
     no_more))))
 checks b (strike_precedence first second u) =
     pair_checks b first second
-    (check (Standing b first second u → ⊥) NothingToStrike
+    (check (¬ Standing b first second u) NothingToStrike
     no_more)
 
 -- the first check that applies refuses so
 abbrev pub Refuses : Checks → EntryRefusal → Type 0
 Refuses no_more refusal = ⊥
-Refuses (check Applies its_own others) refusal = (Applies × (refusal ≡ its_own)) ⊎ ((Applies → ⊥) × Refuses others refusal)
+Refuses (check Applies its_own others) refusal = (Applies × (refusal ≡ its_own)) ⊎ ((¬ Applies) × Refuses others refusal)
 
 -- no check applies
 abbrev pub Accepts : Checks → Type 0
 Accepts no_more = Unit {0}
-Accepts (check Applies refusal others) = (Applies → ⊥) × Accepts others
+Accepts (check Applies refusal others) = (¬ Applies) × Accepts others
 
 -- no check applies, or the first that applies refuses
 abbrev pub CheckedBy : {X : Type 0} → Checks → Result X EntryRefusal → Type 0

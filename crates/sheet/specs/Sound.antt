@@ -26,7 +26,7 @@ pub record Sound (b : Book) : Type 0 where
   -- a precedence names two carriers that both stop at its place, which is neither the first's goal nor the second's start
   pub two : (k first second u : ℕ) → Stands b k first second u → first ≢ second
   pub shared : (k first second u : ℕ) → Stands b k first second u → Holds (OnRoute b first u × OnRoute b second u)
-  pub not_goal : (k first second u : ℕ) → Stands b k first second u → GoalOf b first u → ⊥
-  pub not_start : (k first second u : ℕ) → Stands b k first second u → StartOf b second u → ⊥
+  pub not_goal : (k first second u : ℕ) → Stands b k first second u → ¬ GoalOf b first u
+  pub not_start : (k first second u : ℕ) → Stands b k first second u → ¬ StartOf b second u
   -- two carriers have at most one precedence at a place, either way round
   pub decided_once : (j k c e u : ℕ) → Stands b j c e u → Stands b k c e u ⊎ Stands b k e c u → j ≡ k

@@ -69,7 +69,7 @@ impl Tables {
     // The number of the carrier's stop at the place.
     fn stop_at(&self, visit: Visit) -> Result<u16, EntryRefusal>
         ensures finds { IfOk result (λ s. Visits (book_of self.now) s visit.carrier visit.place) }
-        ensures refuses { IfErr result (λ e. (OnRoute (book_of self.now) visit.carrier visit.place → ⊥) × (e ≡ EntryRefusal.NotOnBothRoutes)) }
+        ensures refuses { IfErr result (λ e. (¬ OnRoute (book_of self.now) visit.carrier visit.place) × (e ≡ EntryRefusal.NotOnBothRoutes)) }
     {
         let number = find(self.stops.as_slice(), &visit).ok_or(EntryRefusal::NotOnBothRoutes)?;
         Ok(number as u16)

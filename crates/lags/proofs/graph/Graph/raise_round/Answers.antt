@@ -7,10 +7,6 @@ use Rattle.lags.proofs.InRounds.{round_more, round_all}
 use Rattle.lags.proofs.graph.Graph.raise_round.Goals as goal
 use Rattle.lags.proofs.graph.Graph.raise_round.Goals.{then-raise, else-raise}
 
-pub raise-requires-clause-low : goal.raise-requires-clause-low
-raise-requires-clause-low c =
-    let lag = lag_at c.args.self.now.lags.now c.loop-number.number in omega (arith, c.loop-number.invariant.low lag.from, c.loop-number.invariant.low lag.to)
-
 pub loop-number-preserved : goal.loop-number-preserved
 loop-number-preserved c =
     let g = c.args.self.now in

@@ -16,8 +16,11 @@ pub push-requires : goal.push-requires
 push-requires c =
     let room = tracing_room _ _ _ _ _ _ _ c.loop-places.invariant c.args.self.now.allowed (rw c.from.ensures at c.in_default.is) in (omega arith, omega (arith, c.args.self.now.few))
 
-pub bounds-self-from : goal.bounds-self-from
-bounds-self-from c = rw (c.from-in-loop-places-3.ensures, c.from-in-loop-places-2.ensures) (tracing_named _ _ _ _ _ _ _ c.loop-places.invariant)
+pub offset_bounds-self-parents : goal.offset_bounds-self-parents
+offset_bounds-self-parents c = rw c.from-in-loop-places-2.ensures (omega (arith, tracing_named _ _ _ _ _ _ _ c.loop-places.invariant, c.args.self.now.short))
+
+pub bounds-self-parents : goal.bounds-self-parents
+bounds-self-parents c = rw c.from-in-loop-places-2.ensures (tracing_named _ _ _ _ _ _ _ c.loop-places.invariant)
 
 pub loop-places-smaller : goal.loop-places-smaller
 loop-places-smaller c =
@@ -25,5 +28,5 @@ loop-places-smaller c =
 
 pub loop-places-preserved : goal.loop-places-preserved
 loop-places-preserved c =
-    rw (c.push.ensures.items, c.from-in-loop-places.ensures, c.len.ensures.value, c.from-in-loop-places-3.ensures, c.from-in-loop-places-2.ensures)
+    rw (c.push.ensures.items, c.from-in-loop-places.ensures, c.len.ensures.value, c.from-in-loop-places-2.ensures)
     (tracing_more _ _ _ _ _ _ _ c.loop-places.invariant c.args.self.now.allowed (rw c.from.ensures at c.in_default.is) c.args.self.now.few)
