@@ -1,5 +1,5 @@
 -- One more stop, while the stops are linked by place, and one more link, while they are followed.
-use Rattle.std.proofs.Common.{◌≡◌, ℕ, ◌+◌, ◌-◌, ◌%◌, ◌<◌, ◌≤◌, Bool, List, length, get_or, set, replicate, Some, None, unwrap_or, Option, sym, refl, ap, ◌∙◌, subst, ⊎_elim, arith}
+use Rattle.std.proofs.Common.{◌≡◌, ℕ, ◌+◌, ◌-◌, ◌%◌, ◌<◌, ◌≤◌, Bool, List, length, slice_index_or, set, replicate, Some, None, unwrap_or, Option, sym, refl, ap, ◌∙◌, subst, ⊎_elim, arith}
 use Rattle.std.proofs.lemmas.Bool.{cases_eq, cases_lt}
 use Rattle.std.proofs.lemmas.List.{get_or-set_same, get_or-set_other, get_or-replicate}
 use Rattle.sheet.specs.declared.records.Stop.{Stop}
@@ -8,14 +8,14 @@ use Rattle.judge.specs.Chains.{ChainedFrom, LowestFrom, part_of}
 use Rattle.judge.specs.Meetings.{OpenMeeting}
 
 module _ (stops : List Stop) where
-  pub chained_more : (s n : ℕ) (later latest : List (Option ℕ)) → s ≡ n + 1 → n < length stops → length later ≡ length stops → length latest ≡ 4096 → ChainedFrom stops s later latest → ChainedFrom stops n (set later n (get_or latest (part_of stops n) None)) (set latest (part_of stops n) (Some n))
+  pub chained_more : (s n : ℕ) (later latest : List (Option ℕ)) → s ≡ n + 1 → n < length stops → length later ≡ length stops → length latest ≡ 4096 → ChainedFrom stops s later latest → ChainedFrom stops n (set later n (slice_index_or latest (part_of stops n) None)) (set latest (part_of stops n) (Some n))
   chained_more s n later latest next within long_later long_latest before =
       let old = subst (λ m. ChainedFrom stops m later latest) next before in
       let p = part_of stops n in
       let small : p < 4096 = omega arith in
-      let v = get_or latest p None in
-      let at_later : get_or (set later n v) n None ≡ v = get_or-set_same later n v None (omega arith) in
-      let at_latest : get_or (set latest p (Some n)) p None ≡ Some n = get_or-set_same latest p (Some n) None (omega arith) in
+      let v = slice_index_or latest p None in
+      let at_later : slice_index_or (set later n v) n None ≡ v = get_or-set_same later n v None (omega arith) in
+      let at_latest : slice_index_or (set latest p (Some n)) p None ≡ Some n = get_or-set_same latest p (Some n) None (omega arith) in
       let here : LowestFrom stops n p (Some n) = record {
         within = λ t q. let same : t ≡ n = (cc) in (omega arith, omega arith, ap (part_of stops) same);
         skips = λ t u q low less. let same : t ≡ n = (cc) in absurd (omega arith);
@@ -57,11 +57,11 @@ module _ (stops : List Stop) where
     -- what is left to look at for a meeting with the stop s: the stop o and those that it is linked to
     pub record Left (o : Option ℕ) : Type 0 where
       pub within : (t : ℕ) → o ≡ Some t → (s < t) × (t < length stops) × (part_of stops t ≡ part_of stops s)
-      pub none_below : (t k : ℕ) → o ≡ Some t → k < t → OpenMeeting stops leads s k → ⊥
-      pub none_at_all : o ≡ None → (k : ℕ) → OpenMeeting stops leads s k → ⊥
+      pub none_below : (t k : ℕ) → o ≡ Some t → k < t → ¬ OpenMeeting stops leads s k
+      pub none_at_all : o ≡ None → (k : ℕ) → ¬ OpenMeeting stops leads s k
 
     -- nothing is open below `low`, from which o is the lowest stop that may meet s
-    left_from : (low : ℕ) (o : Option ℕ) → s < low → LowestFrom stops low (part_of stops s) o → ((k : ℕ) → k < low → OpenMeeting stops leads s k → ⊥) → Left o
+    left_from : (low : ℕ) (o : Option ℕ) → s < low → LowestFrom stops low (part_of stops s) o → ((k : ℕ) → k < low → ¬ OpenMeeting stops leads s k) → Left o
     left_from low o above next below = record {
       within = λ t q. let w = next.within t q in (omega (arith, w.0), w.1, w.2);
       none_below = λ t k q less m. ⊎_elim
@@ -77,7 +77,7 @@ module _ (stops : List Stop) where
     pub left_first : (o : Option ℕ) → LowestFrom stops (s + 1) (part_of stops s) o → Left o
     left_first o next = left_from (s + 1) o (omega arith) next (λ k h m. let l = m.later in omega arith)
 
-    pub left_more : (o o' : Option ℕ) (t : ℕ) → o ≡ Some t → Left o → (OpenMeeting stops leads s t → ⊥) → LowestFrom stops (t + 1) (part_of stops t) o' → Left o'
+    pub left_more : (o o' : Option ℕ) (t : ℕ) → o ≡ Some t → Left o → ¬ OpenMeeting stops leads s t → LowestFrom stops (t + 1) (part_of stops t) o' → Left o'
     left_more o o' t q left closed next =
         let w = left.within t q in
         left_from (t + 1) o' (omega (arith, w.0)) (rw w.2 at next) (λ k h m. ⊎_elim

@@ -1,5 +1,5 @@
 -- From what judging found to what it answers, in the words of the subject.
-use Rattle.std.proofs.Common.{◌≡◌, ℕ, ◌-◌, ◌*◌, ◌≤◌, max, Bool, true, false, cond, eqb, ◌⊎◌, List, length, get_or, ℤ, IfSome, is_ok, Some, None, Ok, Err, Option, Result, sym, refl, ap, ◌∙◌, subst, inl, inr, ⊎_elim, lt_of_not-le, arith}
+use Rattle.std.proofs.Common.{◌≡◌, ℕ, ◌-◌, ◌*◌, ◌≤◌, ◌≢◌, max, Bool, true, false, cond, eqb, ◌⊎◌, List, length, slice_index_or, slice_index, ℤ, IfSome, is_ok, Some, None, Ok, Err, Option, Result, sym, refl, ap, ◌∙◌, subst, inl, inr, ⊎_elim, lt_of_not-le, arith}
 use native.Mathlib.Nat.{le-min, min-le_left, min-le_right}
 use Rattle.std.proofs.lemmas.List.{length-map}
 use Rattle.std.proofs.lemmas.Int.{ints}
@@ -21,7 +21,6 @@ use Rattle.plan.proofs.Decided.{decide_in}
 use Rattle.judge.specs.declared.refusal.JudgeRefusal.{JudgeRefusal}
 use Rattle.judge.specs.declared.refusal.JudgeRefusal.TheVariants.{PageTooShort, NotAtGoal, NoLane, Undecided, HeadOn, Ring}
 use Rattle.judge.specs.Findings.{Setting, Finding, not_at_goal, no_lane, undecided, head_on, in_a_ring, passes, Finds, Impossible}
-use Rattle.judge.specs.FindingHistories.{GoesOn}
 use Rattle.judge.specs.Judged.{Judging, Away, CutOff, UndecidedAt, PassesExactly}
 use Rattle.judge.specs.Shown.{Concludes, Shows, Concluded, room_of, setting_in}
 use Rattle.judge.specs.declared.legs.Leg.{Leg}
@@ -40,7 +39,7 @@ lowest_as P Q to from n (p, none) = (to n p, λ m h q. none m h (from m q))
 lowest_pair_as : (P Q : ℕ → ℕ → Type 0) → ((s t : ℕ) → P s t → Q s t) → ((s t : ℕ) → Q s t → P s t) → (s t : ℕ) → LowestPair P s t → LowestPair Q s t
 lowest_pair_as P Q to from s t (p, lower, lower_too) = (to s t p, λ r q h k. lower r q h (from r q k), λ q h k. lower_too q h (from s q k))
 
-not_some : {X : Type 0} (x : X) → Some x ≡ None → ⊥
+not_some : {X : Type 0} (x : X) → Some x ≢ None
 not_some x e = let z : ◌≡◌ {A = ℕ} 0 1 = cc in omega arith
 
 module _ (sheet : Sheet) (lanes : Lanes) (gap : Gaps) (largest : ℕ) (limited : (from to : ℕ) → IfSome (lanes from to) (λ time. LaneWithin from to time)) where
@@ -60,7 +59,7 @@ module _ (sheet : Sheet) (lanes : Lanes) (gap : Gaps) (largest : ℕ) (limited :
   positive u v d e = let w : LaneWithin u v d = rw e at (limited u v) in w.3
 
   -- no lag ends where a route starts
-  no_lag_to_start : (s t : ℕ) (w : ℤ) → Lag lanes gap b s t w → (c u : ℕ) → Starts b c t u → ⊥
+  no_lag_to_start : (s t : ℕ) (w : ℤ) → Lag lanes gap b s t w → (c u : ℕ) → ¬ Starts b c t u
   no_lag_to_start s t w (travel {c = e} {u = x} {v = v} leg) c u at =
       let o = facts.one_visit sheet t e v c u leg.next.there at.here in
       at.first s x leg.next.later (subst (λ n. Visits b s n x) o.0 leg.next.here)
@@ -75,7 +74,7 @@ module _ (sheet : Sheet) (lanes : Lanes) (gap : Gaps) (largest : ℕ) (limited :
       let β : ℕ → ℕ = λ t. cond (eqb t s) 0 (α t) in
       let low : (t : ℕ) → β t ≤ α t = λ t. ⊎_elim (λ e. rw (eq-eqb t s e) (omega arith)) (λ ne. rw (ne_eqb t s ne) (omega arith)) (cases_eq t s) in
       let kept : Solution (Lag lanes gap b) β = λ r t w lag.
-      let ne : t ≡ s → ⊥ = λ e. no_lag_to_start r t w lag c u (subst (λ n. Starts b c n u) (sym e) at) in
+      let ne : t ≢ s = λ e. no_lag_to_start r t w lag c u (subst (λ n. Starts b c n u) (sym e) at) in
       let same : β t ≡ α t = rw (ne_eqb t s ne) in
       let k = keeps r t w lag in
       let l = low r in
@@ -85,8 +84,8 @@ module _ (sheet : Sheet) (lanes : Lanes) (gap : Gaps) (largest : ℕ) (limited :
       omega arith
 
   -- a sheet whose routes are all home
-  module _ (home : (c : ℕ) → ShortOfGoal (carriers_of sheet) c → ⊥) where
-    all_home : (c : ℕ) → Away b c → ⊥
+  module _ (home : (c : ℕ) → ¬ ShortOfGoal (carriers_of sheet) c) where
+    all_home : (c : ℕ) → ¬ Away b c
     all_home c a = home c (meant.short sheet c a)
 
     reached : (c v : ℕ) → GoalOf b c v → (s : ℕ) × Visits b s c v
@@ -103,9 +102,9 @@ module _ (sheet : Sheet) (lanes : Lanes) (gap : Gaps) (largest : ℕ) (limited :
           let p = meant.previous sheet lanes c s u t v on in
           let here = meant.visited sheet s c u on.here in
           let there = meant.visited sheet t c v on.there in
-          (time_to legs t, subst (λ x. lanes x v ≡ Some (time_to legs t)) here.2 (subst (λ y. lanes (get_or ss s no_stop).place y ≡ Some (time_to legs t)) there.2 (known.timed t s there.0 p)))
+          (time_to legs t, subst (λ x. lanes x v ≡ Some (time_to legs t)) here.2 (subst (λ y. lanes (slice_index_or ss s no_stop).place y ≡ Some (time_to legs t)) there.2 (known.timed t s there.0 p)))
 
-      all_on_lanes : (t : ℕ) → CutOff lanes b t → ⊥
+      all_on_lanes : (t : ℕ) → ¬ CutOff lanes b t
       all_on_lanes t o = let l = on_lanes o.c o.s o.u t o.v o.step in not_some l.0 (sym l.1 ∙ o.no_lane)
 
       orderly : Orderly lanes b
@@ -124,7 +123,7 @@ module _ (sheet : Sheet) (lanes : Lanes) (gap : Gaps) (largest : ℕ) (limited :
       Listed = Between gap ss legs ps
 
       -- and whose meetings are all decided
-      module _ (leads : List Bool) (marks : Leads ps (length ps) leads) (all_decided : (s t : ℕ) → OpenMeeting ss leads s t → ⊥) where
+      module _ (leads : List Bool) (marks : Leads ps (length ps) leads) (all_decided : (s t : ℕ) → ¬ OpenMeeting ss leads s t) where
         complete : Complete lanes b
         complete = record { home = reached; on_lanes = on_lanes; decided = meant.decided sheet lanes legs known leads marks all_decided }
 
@@ -137,11 +136,11 @@ module _ (sheet : Sheet) (lanes : Lanes) (gap : Gaps) (largest : ℕ) (limited :
               λ q h o. let n = lowest s q (at s q o) in let m = n.1 refl in omega arith,
             )
 
-        opposed_excludes : (s t : ℕ) → Opposed lanes b s t → Possible lanes gap b → ⊥
+        opposed_excludes : (s t : ℕ) → Opposed lanes b s t → ¬ Possible lanes gap b
         opposed_excludes s t o (α, good) = (decide_in lanes gap b positive orderly).opposed_none s t o α good
 
         module _ (none_set : LowestOpposed ss legs leads ps (length ps) None) where
-          none_opposed : (s t : ℕ) → Opposed lanes b s t → ⊥
+          none_opposed : (s t : ℕ) → ¬ Opposed lanes b s t
           none_opposed s t o = none_set s t (meant.opposed_at sheet lanes legs known leads marks s t o)
 
           -- the lags worked out
@@ -158,7 +157,7 @@ module _ (sheet : Sheet) (lanes : Lanes) (gap : Gaps) (largest : ℕ) (limited :
           ringed : (l : List ℕ) → RingOf Listed l → RingOf (Lag lanes gap b) l
           ringed l ring = ring_over Listed (Lag lanes gap b) (meant.is_lag sheet lanes legs known gap) l ring
 
-          impossible : (l : List ℕ) → RingOf (Lag lanes gap b) l → Possible lanes gap b → ⊥
+          impossible : (l : List ℕ) → RingOf (Lag lanes gap b) l → ¬ Possible lanes gap b
           impossible l ring (α, good) = (decide_in lanes gap b positive orderly).ring_none l ring α good
 
   abbrev y : Setting
@@ -168,7 +167,7 @@ module _ (sheet : Sheet) (lanes : Lanes) (gap : Gaps) (largest : ℕ) (limited :
   found_away c l = lowest_as (ShortOfGoal (carriers_of sheet)) (Away b) (meant.away sheet) (meant.short sheet) c l
 
   -- what is found of routes that are all home
-  module _ (p : Pages) (home : (c : ℕ) → ShortOfGoal (carriers_of sheet) c → ⊥) where
+  module _ (p : Pages) (home : (c : ℕ) → ¬ ShortOfGoal (carriers_of sheet) c) where
     cut_off : (t : ℕ) → NoLaneTo lanes ss t → Finds y b (no_lane t)
     cut_off t n = (
       all_home home,
@@ -204,8 +203,8 @@ module _ (sheet : Sheet) (lanes : Lanes) (gap : Gaps) (largest : ℕ) (limited :
           complete home w.legs w.known c.leads c.marks c.decided,
           record {
             one_each = t.one_each ∙ sym stops_long;
-            earliest = earliest home w.legs w.known c.leads c.marks c.decided c.none_opposed (λ s. get_or t.times s 0) t.least;
-            ceiling = λ s. subst (λ m. get_or t.times s 0 ≤ (m - 1) * max 36000 largest) (sym stops_long) (t.low s);
+            earliest = earliest home w.legs w.known c.leads c.marks c.decided c.none_opposed (λ s. slice_index t.times s) t.least;
+            ceiling = λ s. subst (λ m. slice_index t.times s ≤ (m - 1) * max 36000 largest) (sym stops_long) (t.low s);
           },
         )
 
@@ -232,7 +231,7 @@ module _ (sheet : Sheet) (lanes : Lanes) (gap : Gaps) (largest : ℕ) (limited :
     long : Fits → length b.stops ≤ room_of p
     long f = rw stops_long (le-min f.0 f.1)
 
-    pub judged_short : (Fits → ⊥) → Untouched p → Concluded (judging (Err PageTooShort)) b
+    pub judged_short : ¬ Fits → Untouched p → Concluded (judging (Err PageTooShort)) b
     judged_short no_fit u = record {
       found = None;
       concludes = lt_of_not-le (λ l. no_fit (let e = stops_long in let left = min-le_left (length p.timetable) (length p.ring) in let right = min-le_right (length p.timetable) (length p.ring) in (omega arith, omega arith)));
@@ -247,7 +246,7 @@ module _ (sheet : Sheet) (lanes : Lanes) (gap : Gaps) (largest : ℕ) (limited :
       pub judged_away : (c : ℕ) → Lowest (ShortOfGoal (carriers_of sheet)) c → Untouched p → Concluded (judging (Err (NotAtGoal c))) b
       judged_away c l u = conclude (Err (NotAtGoal c)) (not_at_goal c) (found_away c l) (refl, u)
 
-      pub judged_routed : ((c : ℕ) → ShortOfGoal (carriers_of sheet) c → ⊥) → (r : Result ℕ JudgeRefusal) → Routed lanes gap (max 36000 largest) ss ps p r → Concluded (judging r) b
+      pub judged_routed : ((c : ℕ) → ¬ ShortOfGoal (carriers_of sheet) c) → (r : Result ℕ JudgeRefusal) → Routed lanes gap (max 36000 largest) ss ps p r → Concluded (judging r) b
       judged_routed home (Ok n) w =
           let t = w.settles.1 in
           conclude (Ok n) (passes t.times) (passing p home n w) (ap Ok (w.settles.0 ∙ sym t.one_each), t.written, t.ring_stands)
@@ -267,7 +266,7 @@ passes_or_not j b c (no_lane t) f shown = let o = f.1.0 in let d = c.on_lanes o.
 passes_or_not j b c (undecided s t) f shown = let o = f.2.0 in absurd (o.nobody_first (c.decided o.c o.e s t o.u o.other o.here o.there))
 passes_or_not j b c (head_on s t) f shown = inr (ap is_ok shown.0, f.2)
 passes_or_not j b c (in_a_ring stops) f shown = inr (ap is_ok shown.0, f.3)
-passes_or_not j b c (passes times) f shown = inl (ap is_ok shown.0, ((λ s. get_or times s 0), f.1.earliest.good))
+passes_or_not j b c (passes times) f shown = inl (ap is_ok shown.0, ((λ s. slice_index times s), f.1.earliest.good))
 
 -- an answer that is so passes exactly the sheets that some plan keeps
 pub exactly : (j : Judging) (b : Book) → Concluded j b → PassesExactly j b
@@ -280,7 +279,3 @@ exactly j b judged = go judged.found judged.concludes judged.shown
         (λ (ok, possible). (λ _. possible, λ _. ok))
         (λ (fails, impossible). (λ ok. absurd (both_ways (is_ok j.answer) fails ok), λ possible. absurd (impossible possible)))
         (passes_or_not j b c f finds shown)
-
--- what is found goes on from every history
-pub goes_on : (j : Judging) (b : Book) → Concluded j b → GoesOn j b
-goes_on j b judged = record { found = judged.found; shown = judged.shown; lawful = λ h l. (b, l, (judged.concludes, refl)) }

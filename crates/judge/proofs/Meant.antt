@@ -1,5 +1,5 @@
 -- What judging's tables mean in the words of the book.
-use Rattle.std.proofs.Common.{◌≡◌, ℕ, ◌<◌, Bool, true, false, ◌≢◌, List, length, get_or, ℤ, pos, Some, None, Option, sym, refl, ap, ◌∙◌, subst, inl, inr, ⊎_elim, arith}
+use Rattle.std.proofs.Common.{◌≡◌, ℕ, ◌<◌, Bool, true, false, ◌≢◌, List, length, slice_index_or, ℤ, pos, Some, None, Option, sym, refl, ap, ◌∙◌, subst, inl, inr, ⊎_elim, arith}
 use Rattle.std.proofs.lemmas.Option.{slice_get-get_or}
 use Rattle.std.proofs.lemmas.Bool.{cases_order, both_ways, cases_Bool}
 use Rattle.std.proofs.iter.runs.Lists.{slice_get_within}
@@ -33,17 +33,17 @@ module _ (sheet : Sheet) where
   ps = precedences_of sheet
 
   abbrev carrier_at : ℕ → ℕ
-  carrier_at t = (get_or ss t no_stop).carrier
+  carrier_at t = (slice_index_or ss t no_stop).carrier
 
   abbrev place_at : ℕ → ℕ
-  place_at t = (get_or ss t no_stop).place
+  place_at t = (slice_index_or ss t no_stop).place
 
   abbrev the : ℕ → Precedence
-  the k = get_or ps k no_precedence
+  the k = slice_index_or ps k no_precedence
 
   -- stops
   visits : (t : ℕ) → t < length ss → Visits b t (carrier_at t) (place_at t)
-  visits t h = facts.visits_of sheet t (get_or ss t no_stop) (slice_get-get_or ss t no_stop h)
+  visits t h = facts.visits_of sheet t (slice_index_or ss t no_stop) (slice_get-get_or ss t no_stop h)
 
   pub visited : (t c u : ℕ) → Visits b t c u → (t < length ss) × (carrier_at t ≡ c) × (place_at t ≡ u)
   visited t c u v =
@@ -98,7 +98,7 @@ module _ (sheet : Sheet) where
   -- carriers that are not home
   pub away : (c : ℕ) → ShortOfGoal cs c → Away b c
   away c (h, other) =
-      let x = get_or cs c no_carrier in
+      let x = slice_index_or cs c no_carrier in
       let at = slice_get-get_or cs c no_carrier h in
       record {
         goal = x.goal;
@@ -110,7 +110,7 @@ module _ (sheet : Sheet) where
   short c a =
       let f = facts.goes_from sheet c a.its_goal.0 a.goal a.its_goal.1 in
       let h = slice_get_within cs c f.0 f.1 in
-      let same : get_or cs c no_carrier ≡ f.0 = let x = slice_get-get_or cs c no_carrier h in let y = f.1 in (cc) in (
+      let same : slice_index_or cs c no_carrier ≡ f.0 = let x = slice_get-get_or cs c no_carrier h in let y = f.1 in (cc) in (
         h,
         λ e.
             let at : f.0.last_place ≡ f.0.goal = sym (ap (λ (x : Carrier). x.last_place) same) ∙ (e ∙ ap (λ (x : Carrier). x.goal) same) in
@@ -121,14 +121,14 @@ module _ (sheet : Sheet) where
     -- steps
     next_of : (t p : ℕ) → t < length ss → Previous lanes ss t p → Next b (carrier_at t) p (place_at p) t (place_at t)
     next_of t p h q =
-        let y = facts.previous_next sheet t p (get_or ss t no_stop) (slice_get-get_or ss t no_stop h) q in
+        let y = facts.previous_next sheet t p (slice_index_or ss t no_stop) (slice_get-get_or ss t no_stop h) q in
         let v = visited p (carrier_at t) y.0.place y.2.here in
         subst (λ u. Next b (carrier_at t) p u t (place_at t)) (sym v.2) y.2
 
     pub previous : (c p u t v : ℕ) → Next b c p u t v → Previous lanes ss t p
     previous c p u t v on =
         let h = facts.visits_within sheet t c v on.there in
-        facts.next_previous sheet c p u t v (get_or ss t no_stop) (slice_get-get_or ss t no_stop h) on
+        facts.next_previous sheet c p u t v (slice_index_or ss t no_stop) (slice_get-get_or ss t no_stop h) on
 
     -- a stop is followed by one stop
     one_after : (c p u t v r w : ℕ) → Next b c p u t v → Next b c p u r w → t ≡ r
@@ -292,7 +292,7 @@ module _ (sheet : Sheet) where
             }
 
         -- every meeting decided
-        pub decided : ((s t : ℕ) → OpenMeeting ss leads s t → ⊥) → (c e s r u : ℕ) → c ≢ e → Visits b s c u → Visits b r e u → Decided b c e u
+        pub decided : ((s t : ℕ) → ¬ OpenMeeting ss leads s t) → (c e s r u : ℕ) → c ≢ e → Visits b s c u → Visits b r e u → Decided b c e u
         decided none c e s r u other here there =
             let at_s = visited s c u here in
             let at_r = visited r e u there in
@@ -311,7 +311,7 @@ module _ (sheet : Sheet) where
                 let f : leads_at leads s (carrier_at r) ≡ false = ap (λ n. leads_at leads s n) at_r.1 ∙ no_first in
                 let g : leads_at leads r (carrier_at s) ≡ false = ap (λ n. leads_at leads r n) at_s.1 ∙ no_second in
                 let place : place_at r ≡ place_at s = at_r.2 ∙ sym at_s.2 in
-                let apart : carrier_at r ≡ carrier_at s → ⊥ = λ q. other (sym at_s.1 ∙ (sym q ∙ at_r.1)) in
+                let apart : carrier_at r ≢ carrier_at s = λ q. other (sym at_s.1 ∙ (sym q ∙ at_r.1)) in
                 ⊎_elim
                 (λ q. apart (ap carrier_at (sym q)))
                 (⊎_elim
@@ -364,7 +364,7 @@ module _ (sheet : Sheet) where
               f.within,
               record {
                 from_first = i;
-                from_second = subst (λ n. (get_or ss n no_stop).previous ≡ Some s) (sym j) s_in.step;
+                from_second = subst (λ n. (slice_index_or ss n no_stop).previous ≡ Some s) (sym j) s_in.step;
                 target = o.t_goes.0;
                 goes = next_in o.t_goes.0 t t_in.within t_in.step;
                 arrives = t_in.to_place ∙ sym s_in.from_place;

@@ -1,5 +1,5 @@
 -- One more precedence, while the lowest pair that is set head on is looked for.
-use Rattle.std.proofs.Common.{◌≡◌, ℕ, ◌+◌, ◌<◌, Bool, cond, ◌⊎◌, List, get_or, MatchOption, Some, None, Option, Ordering, sym, refl, ap, ◌∙◌, subst, inl, inr, ⊎_elim, arith}
+use Rattle.std.proofs.Common.{◌≡◌, ℕ, ◌+◌, ◌<◌, Bool, cond, ◌⊎◌, List, slice_index_or, MatchOption, Some, None, Option, Ordering, sym, refl, ap, ◌∙◌, subst, inl, inr, ⊎_elim, arith}
 use Rattle.std.proofs.lemmas.Bool.{cases_eq}
 use Rattle.std.proofs.lemmas.Cmp.{ranked}
 use Rattle.std.specs.Ordering.{MatchOrdering, is_lt, nat_cmp, ord_min, ordering_then}
@@ -40,7 +40,7 @@ above_trans p q s t a b = (
 
 module _ (stops : List Stop) (legs : List Leg) (leads : List Bool) (ps : List Precedence) (n : ℕ) where
   abbrev At : ℕ → ℕ → Type 0
-  At s t = OpposedBy stops legs leads (get_or ps n no_precedence) s t
+  At s t = OpposedBy stops legs leads (slice_index_or ps n no_precedence) s t
 
   -- what is found at one precedence
   abbrev Found : ℕ × ℕ → Type 0
@@ -48,14 +48,14 @@ module _ (stops : List Stop) (legs : List Leg) (leads : List Bool) (ps : List Pr
 
   split : (P : Type 0) (s t : ℕ) → OpposedBelow stops legs leads ps (n + 1) s t → (OpposedBelow stops legs leads ps n s t → P) → (At s t → P) → P
   split P s t (k, h, o) old new = ⊎_elim
-      (λ e. new (subst (λ m. OpposedBy stops legs leads (get_or ps m no_precedence) s t) e o))
+      (λ e. new (subst (λ m. OpposedBy stops legs leads (slice_index_or ps m no_precedence) s t) e o))
       (λ ne. old (k, omega arith, o))
       (cases_eq k n)
 
   more : (s t : ℕ) → OpposedBelow stops legs leads ps n s t → OpposedBelow stops legs leads ps (n + 1) s t
   more s t (k, h, o) = (k, omega arith, o)
 
-  pub opposed_kept : (best best' : Option (ℕ × ℕ)) → best' ≡ best → LowestOpposed stops legs leads ps n best → ((s t : ℕ) → At s t → ⊥) → LowestOpposed stops legs leads ps (n + 1) best'
+  pub opposed_kept : (best best' : Option (ℕ × ℕ)) → best' ≡ best → LowestOpposed stops legs leads ps n best → ((s t : ℕ) → ¬ At s t) → LowestOpposed stops legs leads ps (n + 1) best'
   opposed_kept best best' e old none = rw e (go best old)
     where
       go : (b : Option (ℕ × ℕ)) → LowestOpposed stops legs leads ps n b → LowestOpposed stops legs leads ps (n + 1) b

@@ -1,5 +1,5 @@
 -- From the lags that were gathered to what is written on the pages.
-use Rattle.std.proofs.Common.{◌≡◌, ℕ, ◌+◌, ◌-◌, ◌*◌, ◌^◌, ◌<◌, ◌≤◌, max, List, ◌++◌, length, get_or, take, drop, ℤ, pos, negsuc, ◌-ℤ◌, ◌≤ℤ◌, sym, ap, ◌∙◌, subst, ⊎_elim, arith}
+use Rattle.std.proofs.Common.{◌≡◌, ℕ, ◌+◌, ◌-◌, ◌*◌, ◌^◌, ◌<◌, ◌≤◌, max, List, ◌++◌, length, slice_index_or, slice_index, take, drop, ℤ, pos, negsuc, ◌-ℤ◌, ◌≤ℤ◌, sym, ap, ◌∙◌, subst, ⊎_elim, arith}
 use native.Mathlib.Nat.{le-max_left, le-max_right}
 use Rattle.std.proofs.lemmas.List.{length-take-le, take-append-drop}
 use Rattle.std.proofs.lemmas.List.Elements.{Contains-get_or}
@@ -31,8 +31,8 @@ module _ (gap : ℕ → ℕ → ℕ → ℕ) (largest : ℕ) (small : largest �
   listed : Lists IsLag lags
   listed = rw same gathered
 
-  is_lag : (k : ℕ) (d : Lag) → k < length lags → IsLag (get_or lags k d)
-  is_lag k d h = (listed (get_or lags k d)).0 (Contains-get_or lags k d h)
+  is_lag : (k : ℕ) (d : Lag) → k < length lags → IsLag (slice_index_or lags k d)
+  is_lag k d h = (listed (slice_index_or lags k d)).0 (Contains-get_or lags k d h)
 
   allowed_one : (g : Lag) → IsLag g → Allowed (length stops) g
   allowed_one g l = ⊎_elim
@@ -49,7 +49,7 @@ module _ (gap : ℕ → ℕ → ℕ → ℕ) (largest : ℕ) (small : largest �
       let next = ready.inside _ _ wait.from_next in
       let time = ready.timely _ _ wait.from_next in
       let here = ready.consistent.lawful k w.1 in
-      let most = bounded (get_or ps k no_precedence).place (get_or stops g.from no_stop).place (time_to legs g.from) time.0 time.1 in (
+      let most = bounded (slice_index_or ps k no_precedence).place (slice_index_or stops g.from no_stop).place (time_to legs g.from) time.0 time.1 in (
         (omega arith, omega (arith, wait.to_second, here.3)),
         (weight_low g.weight _ _ wait.weighs time.1, weight_most g.weight _ _ 100000 wait.weighs time.0 (omega (arith, most))),
       ))
@@ -59,7 +59,7 @@ module _ (gap : ℕ → ℕ → ℕ → ℕ) (largest : ℕ) (small : largest �
   fit n room e short wide = rw e (record {
     few = ready.consistent.few;
     short = short;
-    allowed = λ k d h. allowed_one (get_or lags k d) (is_lag k d h);
+    allowed = λ k d h. allowed_one (slice_index_or lags k d) (is_lag k d h);
     wide = wide;
   })
 
@@ -72,12 +72,12 @@ module _ (gap : ℕ → ℕ → ℕ → ℕ) (largest : ℕ) (small : largest �
       (λ w.
       let wait = w.2 in
       let time = ready.timely _ _ wait.from_next in
-      let most = bounded (get_or ps w.0 no_precedence).place (get_or stops g.from no_stop).place (time_to legs g.from) time.0 time.1 in
+      let most = bounded (slice_index_or ps w.0 no_precedence).place (slice_index_or stops g.from no_stop).place (time_to legs g.from) time.0 time.1 in
       weight_most g.weight _ _ (max 36000 largest) wait.weighs time.0 (omega (arith, most)))
       l
 
   under : Under lags (max 36000 largest)
-  under = λ k d h. under_one (get_or lags k d) (is_lag k d h)
+  under = λ k d h. under_one (slice_index_or lags k d) (is_lag k d h)
 
   -- the listed lags are those of the tables
   from_listed : (s t : ℕ) (w : ℤ) → Listed lags s t w → Between gap stops legs ps s t w
@@ -92,17 +92,17 @@ module _ (gap : ℕ → ℕ → ℕ → ℕ) (largest : ℕ) (small : largest �
     one_each = n;
     written = w;
     least = (
-      solution_over (Between gap stops legs ps) (Listed lags) to_listed (λ s. get_or α s 0) e.least.0,
+      solution_over (Between gap stops legs ps) (Listed lags) to_listed (λ s. slice_index α s) e.least.0,
       λ β k v. e.least.1 β (solution_over (Listed lags) (Between gap stops legs ps) from_listed β k) v,
     );
-    low = λ s. subst (λ m. get_or α s 0 ≤ (m - 1) * max 36000 largest) n (e.ceiling (max 36000 largest) under s);
+    low = λ s. subst (λ m. slice_index α s ≤ (m - 1) * max 36000 largest) n (e.ceiling (max 36000 largest) under s);
     ring_stands = r;
   }
 
   -- no arrival is too large for the timetable
-  pub times_fit : (α : List ℕ) → Earliest lags α → length α ≡ length stops → (i : ℕ) → get_or α i 0 < 2 ^ 32
+  pub times_fit : (α : List ℕ) → Earliest lags α → length α ≡ length stops → (i : ℕ) → slice_index α i < 2 ^ 32
   times_fit α e n i =
-      let c = e.ceiling 100000 (λ k d h. (allowed_one (get_or lags k d) (is_lag k d h)).1.1) i in
+      let c = e.ceiling 100000 (λ k d h. (allowed_one (slice_index_or lags k d) (is_lag k d h)).1.1) i in
       let few = ready.consistent.few in
       omega (arith, c)
 

@@ -1,5 +1,5 @@
 -- One more lag, while the lags are gathered.
-use Rattle.std.proofs.Common.{◌≡◌, ℕ, ◌+◌, ◌<◌, ◌⊎◌, List, [], ◌∷◌, ◌++◌, get_or, ℤ, pos, ◌-ℤ◌, Some, None, sym, ap, ◌∙◌, subst, inl, inr, ⊎_elim, arith}
+use Rattle.std.proofs.Common.{◌≡◌, ℕ, ◌+◌, ◌<◌, ◌⊎◌, List, [], ◌∷◌, ◌++◌, slice_index_or, ℤ, pos, ◌-ℤ◌, Some, None, sym, ap, ◌∙◌, subst, inl, inr, ⊎_elim, arith}
 use Rattle.std.specs.List.{Contains}
 use Rattle.std.proofs.lemmas.Bool.{cases_eq}
 use Rattle.std.proofs.lemmas.List.Elements.{Contains-append_left, Contains-push, Contains-push_cases}
@@ -37,22 +37,22 @@ module _ (stops : List Stop) (legs : List Leg) (t : ℕ) (lags : List Lag) (old 
   travel_more g v = record { within = omega (arith, v.within); step = v.step; weighs = v.weighs }
 
   -- a route's first stop
-  pub step_none : (lags' : List Lag) → lags' ≡ lags → (get_or stops t no_stop).previous ≡ None → Lists (Travel stops legs (t + 1)) lags'
+  pub step_none : (lags' : List Lag) → lags' ≡ lags → (slice_index_or stops t no_stop).previous ≡ None → Lists (Travel stops legs (t + 1)) lags'
   step_none lags' e none =
       rw e (lists_kept (Travel stops legs t) (Travel stops legs (t + 1)) lags old travel_more
       (λ g v. ⊎_elim
-      (λ q. let y = v.step in let z = ap (λ m. (get_or stops m no_stop).previous) q in (cc))
+      (λ q. let y = v.step in let z = ap (λ m. (slice_index_or stops m no_stop).previous) q in (cc))
       (λ ne. record { within = omega (arith, v.within, ne); step = v.step; weighs = v.weighs })
       (cases_eq g.to t)))
 
   -- a stop with one before it
-  pub step_more : (lags' : List Lag) (p : ℕ) (w : ℤ) → lags' ≡ lags ++ record { from = p; to = t; weight = w } ∷ [] → w ≡ pos (time_to legs t) → (get_or stops t no_stop).previous ≡ Some p → Lists (Travel stops legs (t + 1)) lags'
+  pub step_more : (lags' : List Lag) (p : ℕ) (w : ℤ) → lags' ≡ lags ++ record { from = p; to = t; weight = w } ∷ [] → w ≡ pos (time_to legs t) → (slice_index_or stops t no_stop).previous ≡ Some p → Lists (Travel stops legs (t + 1)) lags'
   step_more lags' p w e weighs comes =
       let g : Lag = record { from = p; to = t; weight = w } in
       rw e (lists_more (Travel stops legs t) (Travel stops legs (t + 1)) lags old g travel_more
       (record { within = omega arith; step = comes; weighs = weighs })
       (λ h v. ⊎_elim
-      (λ q. inr (same_lag h p t w (let z = v.step in let y = ap (λ m. (get_or stops m no_stop).previous) q in (cc)) q (v.weighs ∙ (ap (λ m. pos (time_to legs m)) q ∙ sym weighs))))
+      (λ q. inr (same_lag h p t w (let z = v.step in let y = ap (λ m. (slice_index_or stops m no_stop).previous) q in (cc)) q (v.weighs ∙ (ap (λ m. pos (time_to legs m)) q ∙ sym weighs))))
       (λ ne. inl (record { within = omega (arith, v.within, ne); step = v.step; weighs = v.weighs }))
       (cases_eq h.to t)))
 
@@ -65,7 +65,7 @@ module _ (gap : ℕ → ℕ → ℕ → ℕ) (stops : List Stop) (legs : List Le
   one_wait p g h a b =
       let f : h.from ≡ g.from = let x = a.from_next in let y = b.from_next in (cc) in
       same_lag h g.from g.to g.weight f (b.to_second ∙ sym a.to_second)
-      (b.weighs ∙ (ap (λ m. pos (gap p.place (get_or stops m no_stop).place (time_to legs m) + 1) -ℤ pos (time_to legs m)) f ∙ sym a.weighs))
+      (b.weighs ∙ (ap (λ m. pos (gap p.place (slice_index_or stops m no_stop).place (time_to legs m) + 1) -ℤ pos (time_to legs m)) f ∙ sym a.weighs))
 
   -- before the first precedence
   pub waits_none : (lags : List Lag) → Lists (Travel stops legs n) lags → Lists (LagOf gap stops legs ps n 0) lags
@@ -75,27 +75,27 @@ module _ (gap : ℕ → ℕ → ℕ → ℕ) (stops : List Stop) (legs : List Le
     more : (g : Lag) → LagOf gap stops legs ps n m g → LagOf gap stops legs ps n (m + 1) g
     more g l = ⊎_elim (λ t. inl t) (λ w. inr (w.0, omega (arith, w.1), w.2)) l
 
-    back : (P : Lag → Type 0) → ((g : Lag) → Waiting gap stops legs (get_or ps m no_precedence) g → P g) → (g : Lag) → LagOf gap stops legs ps n (m + 1) g → LagOf gap stops legs ps n m g ⊎ P g
+    back : (P : Lag → Type 0) → ((g : Lag) → Waiting gap stops legs (slice_index_or ps m no_precedence) g → P g) → (g : Lag) → LagOf gap stops legs ps n (m + 1) g → LagOf gap stops legs ps n m g ⊎ P g
     back P here g l = ⊎_elim
         (λ t. inl (inl t))
         (λ w. ⊎_elim
-        (λ e. inr (here g (subst (λ k. Waiting gap stops legs (get_or ps k no_precedence) g) e w.2)))
+        (λ e. inr (here g (subst (λ k. Waiting gap stops legs (slice_index_or ps k no_precedence) g) e w.2)))
         (λ ne. inl (inr (w.0, omega (arith, w.1, ne), w.2)))
         (cases_eq w.0 m))
         l
 
     -- a precedence whose first carrier goes no further
-    pub wait_none : (lags' : List Lag) → lags' ≡ lags → next_after legs (get_or ps m no_precedence).first_stop ≡ None → Lists (LagOf gap stops legs ps n (m + 1)) lags'
+    pub wait_none : (lags' : List Lag) → lags' ≡ lags → next_after legs (slice_index_or ps m no_precedence).first_stop ≡ None → Lists (LagOf gap stops legs ps n (m + 1)) lags'
     wait_none lags' e none =
         rw e (lists_kept (LagOf gap stops legs ps n m) (LagOf gap stops legs ps n (m + 1)) lags old more
         (λ g l. ⊎_elim (λ o. o) (λ b. absurd b) (back (λ _. ⊥) (λ h w. let z = w.from_next in (cc)) g l)))
 
     -- a precedence with its lag
-    pub wait_more : (lags' : List Lag) (g : Lag) → lags' ≡ lags ++ g ∷ [] → Waiting gap stops legs (get_or ps m no_precedence) g → Lists (LagOf gap stops legs ps n (m + 1)) lags'
+    pub wait_more : (lags' : List Lag) (g : Lag) → lags' ≡ lags ++ g ∷ [] → Waiting gap stops legs (slice_index_or ps m no_precedence) g → Lists (LagOf gap stops legs ps n (m + 1)) lags'
     wait_more lags' g e w =
         rw e (lists_more (LagOf gap stops legs ps n m) (LagOf gap stops legs ps n (m + 1)) lags old g more
         (inr (m, omega arith, w))
-        (back (λ h. h ≡ g) (λ h v. one_wait (get_or ps m no_precedence) g h w v)))
+        (back (λ h. h ≡ g) (λ h v. one_wait (slice_index_or ps m no_precedence) g h w v)))
 
     pub waits_all : (m' : ℕ) → m ≡ m' → Lists (LagOf gap stops legs ps n m') lags
     waits_all m' e = subst (λ k. Lists (LagOf gap stops legs ps n k) lags) e old

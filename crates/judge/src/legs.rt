@@ -28,7 +28,7 @@ pub(crate) const NO_LEG: Leg = Leg {
 // number of a carrier or a stop is small, and the check proves that nothing is lost.
 pub(crate) fn check_goals(carriers: &[Carrier]) -> Result<(), JudgeRefusal>
     requires { length carriers.now ≤ 64 }
-    ensures { MatchResult result (λ _. (c : ℕ) → ShortOfGoal carriers.now c → ⊥) (λ e. (c : ℕ) × (e ≡ NotAtGoal c) × Lowest (ShortOfGoal carriers.now) c) }
+    ensures { MatchResult result (λ _. (c : ℕ) → ¬ ShortOfGoal carriers.now c) (λ e. (c : ℕ) × (e ≡ NotAtGoal c) × Lowest (ShortOfGoal carriers.now) c) }
 {
     match carriers.iter().position(|carrier| !carrier.is_at_goal()) {
         Some(c) => Err(JudgeRefusal::NotAtGoal { carrier: c as u16 }),

@@ -10,6 +10,7 @@ ghost use Rattle.play.specs.Verdicts.{finding_of};
 use crate::answers::{SheetRefusal, Verdict};
 use judge::judging::judge;
 use judge::refusal::JudgeRefusal;
+use sheet::limits::MOST_STOPS;
 use sheet::sheets::Sheet;
 use std::alloc::{AllocError, Global};
 use yard::{FollowingRule, Yard};
@@ -44,8 +45,8 @@ pub fn judge_sheet<Y: Yard, R: FollowingRule>(
     ensures { IfOk result (λ v. Finds (record { lanes = Y.Yard.lanes yard.now; gap = R.FollowingRule.gaps rule.now; largest = R.FollowingRule.LARGEST_GAP }) (sheet_book sheet.now) (finding_of v)) }
 {
     // Pages for any sheet; judging lends its pages from the caller.
-    let mut timetable = [0; 1024];
-    let mut ring = [0; 1024];
+    let mut timetable = [0; MOST_STOPS];
+    let mut ring = [0; MOST_STOPS];
     match judge(sheet, yard, rule, &mut timetable, &mut ring) {
         Ok(stops) => {
             let timetable = Vec::from_slice(heap, &timetable[..usize::from(stops)])?;

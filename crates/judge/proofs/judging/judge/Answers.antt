@@ -1,15 +1,13 @@
-use Rattle.std.proofs.Common.{ℕ, max, length, Err, refl, ap, subst, ⊎_elim, arith}
+use Rattle.std.proofs.Common.{ℕ, max, length, refl, ap, subst, ⊎_elim, arith}
 use Rattle.std.proofs.lemmas.Result.{err_from_is_err_and}
 use Rattle.judge.specs.Lowest.{Lowest}
-use Rattle.sheet.specs.Sheets.{carriers_of, stops_of, precedences_of, sheet_book}
+use Rattle.sheet.specs.Sheets.{carriers_of, stops_of, precedences_of}
 use Rattle.sheet.proofs.Facts as facts
-use Rattle.judge.specs.declared.refusal.JudgeRefusal.TheVariants.{PageTooShort, NotAtGoal}
-use Rattle.judge.specs.Judged.{judging_of}
 use Rattle.judge.specs.Legs.{ShortOfGoal}
 use Rattle.judge.specs.Routing.{Routed}
 use Rattle.judge.specs.Settling.{Pages}
-use Rattle.judge.proofs.InFull.{goes_on_in_full, judged_in_full}
-use Rattle.judge.proofs.Judgements.{judged_short, judged_away, judged_routed, exactly, goes_on}
+use Rattle.judge.proofs.InFull.{judged_fully}
+use Rattle.judge.proofs.Judgements.{judged_short, judged_away, judged_routed}
 use Rattle.judge.proofs.Routings.{routed_same, routed_within}
 use Rattle.judge.proofs.Tabled.{consistent}
 use Rattle.judge.proofs.judging.judge.Goals as goal
@@ -28,15 +26,7 @@ returns-then-timetable-stops g c =
     let long = ap length c.stops-stops.ensures in
     let J = judged_short own lanes gaps g.R.FollowingRule.LARGEST_GAP (g.met.Y.Yard.limited _) pages
     (λ f. ⊎_elim (λ a. omega (arith, f.0)) (λ a. omega (arith, f.1, a.1)) c.then-timetable-stops.either) (refl, refl) in
-    let j = judging_of lanes gaps g.R.FollowingRule.LARGEST_GAP c.args.timetable.now c.args.ring.now c.args.timetable.now c.args.ring.now (Err PageTooShort) in
-    record {
-      judges = judged_in_full j (sheet_book own) J;
-      exactly = exactly j (sheet_book own) J;
-      goes_on = goes_on_in_full j (sheet_book own) J;
-      concludes = J;
-      continues = goes_on j (sheet_book own) J;
-      within = tt;
-    }
+    judged_fully _ _ J tt
 
 pub returns-in_err-check_goals : goal.returns-in_err-check_goals
 returns-in_err-check_goals g c =
@@ -49,15 +39,7 @@ returns-in_err-check_goals g c =
     let low = subst (λ xs. Lowest (ShortOfGoal xs) away.0) c.carriers.ensures away.2 in
     let J = judged_away own lanes gaps g.R.FollowingRule.LARGEST_GAP (g.met.Y.Yard.limited _) pages (omega arith, omega arith) away.0 low (refl, refl) in
     let p = err_from_is_err_and c.from_residual.result c.from_residual.ensures.1 in
-    let j = judging_of lanes gaps g.R.FollowingRule.LARGEST_GAP c.args.timetable.now c.args.ring.now c.args.timetable.now c.args.ring.now (Err (NotAtGoal away.0)) in
-    rw (p.1, p.2, away.1) (record {
-      judges = judged_in_full j (sheet_book own) J;
-      exactly = exactly j (sheet_book own) J;
-      goes_on = goes_on_in_full j (sheet_book own) J;
-      concludes = J;
-      continues = goes_on j (sheet_book own) J;
-      within = tt;
-    })
+    rw (p.1, p.2, away.1) (judged_fully _ _ J tt)
 
 pub returns : goal.returns
 returns g c =
@@ -71,15 +53,7 @@ returns g c =
     let pages : Pages = record { timetable = c.args.timetable.now; ring = c.args.ring.now; timetable_after = c.judge_routes.new.timetable; ring_after = c.judge_routes.new.ring } in
     let routed : Routed lanes gaps (max 36000 largest) (stops_of own) (precedences_of own) pages c.judge_routes.result =
     routed_same lanes gaps (max 36000 largest) pages c.judge_routes.result _ _ _ _ stops precedences c.judge_routes.ensures in
-    let home : (k : ℕ) → ShortOfGoal (carriers_of own) k → ⊥ = subst (λ xs. (k : ℕ) → ShortOfGoal xs k → ⊥) carriers c.in_ok-check_goals.ensures in
+    let home : (k : ℕ) → ¬ ShortOfGoal (carriers_of own) k = subst (λ xs. (k : ℕ) → ¬ ShortOfGoal xs k) carriers c.in_ok-check_goals.ensures in
     let long = ap length stops in
-    let j = judging_of lanes gaps largest c.args.timetable.now c.args.ring.now c.judge_routes.new.timetable c.judge_routes.new.ring c.judge_routes.result in
     let J = judged_routed own lanes gaps largest (g.met.Y.Yard.limited _) pages (omega arith, omega arith) home c.judge_routes.result routed in
-    record {
-      judges = judged_in_full j (sheet_book own) J;
-      exactly = exactly j (sheet_book own) J;
-      goes_on = goes_on_in_full j (sheet_book own) J;
-      concludes = J;
-      continues = goes_on j (sheet_book own) J;
-      within = routed_within lanes gaps (max 36000 largest) _ _ pages (omega arith) c.judge_routes.auto.ring c.judge_routes.result c.judge_routes.ensures;
-    }
+    judged_fully _ _ J (routed_within lanes gaps (max 36000 largest) _ _ pages (omega arith) c.judge_routes.auto.ring c.judge_routes.result c.judge_routes.ensures)
