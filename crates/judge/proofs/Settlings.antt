@@ -1,5 +1,5 @@
 -- From the lags that were gathered to what is written on the pages.
-use Rattle.std.proofs.Common.{◌≡◌, ℕ, ◌+◌, ◌-◌, ◌*◌, ◌^◌, ◌<◌, ◌≤◌, max, List, ◌++◌, length, slice_index_or, slice_index, take, drop, ℤ, pos, negsuc, ◌-ℤ◌, ◌≤ℤ◌, sym, ap, ◌∙◌, subst, ⊎_elim, arith}
+use Rattle.std.proofs.Common.{◌≡◌, ℕ, ◌+◌, ◌-◌, ◌*◌, ◌^◌, ◌<◌, ◌≤◌, max, List, ◌++◌, length, slice_index_or, slice_index, take, drop, ℤ, pos, negsuc, ◌-ℤ◌, ◌≤ℤ◌, All, sym, ap, ◌∙◌, subst, ⊎_elim, arith}
 use native.Mathlib.Nat.{le-max_left, le-max_right}
 use Rattle.std.proofs.lemmas.List.{length-take-le, take-append-drop}
 use Rattle.std.proofs.lemmas.List.Elements.{Contains-get_or}
@@ -8,8 +8,8 @@ use Rattle.sheet.specs.declared.records.Precedence.{Precedence}
 use Rattle.sheet.specs.declared.records.Stop.{Stop}
 use Rattle.sheet.specs.Records.{no_precedence, no_stop}
 use Rattle.lags.specs.declared.Lag.{Lag}
-use Rattle.lags.specs.Solved.{Listed, Allowed, Fit, Under, Earliest, Looped}
-use Rattle.lags.proofs.Ways.{ring_over, solution_over}
+use Rattle.lags.specs.Solved.{Listed, Allowed, Fit, Earliest, Looped}
+use Rattle.lags.proofs.Ways.{least_over, ring_over}
 use Rattle.judge.specs.Settling.{Pages, TimesWritten, RingWritten}
 use Rattle.judge.specs.declared.legs.Leg.{Leg}
 use Rattle.judge.specs.Legs.{time_to}
@@ -31,8 +31,9 @@ module _ (gap : ℕ → ℕ → ℕ → ℕ) (largest : ℕ) (small : largest �
   listed : Lists IsLag lags
   listed = rw same gathered
 
-  is_lag : (k : ℕ) (d : Lag) → k < length lags → IsLag (slice_index_or lags k d)
-  is_lag k d h = (listed (slice_index_or lags k d)).0 (Contains-get_or lags k d h)
+  -- what holds of every such lag, holds of all that were gathered
+  all : {P : Lag → Type 0} → ((g : Lag) → IsLag g → P g) → All P lags
+  all each k d h = each (slice_index_or lags k d) ((listed (slice_index_or lags k d)).0 (Contains-get_or lags k d h))
 
   allowed_one : (g : Lag) → IsLag g → Allowed (length stops) g
   allowed_one g l = ⊎_elim
@@ -59,7 +60,7 @@ module _ (gap : ℕ → ℕ → ℕ → ℕ) (largest : ℕ) (small : largest �
   fit n room e short wide = rw e (record {
     few = ready.consistent.few;
     short = short;
-    allowed = λ k d h. allowed_one (slice_index_or lags k d) (is_lag k d h);
+    allowed = all allowed_one;
     wide = wide;
   })
 
@@ -76,9 +77,6 @@ module _ (gap : ℕ → ℕ → ℕ → ℕ) (largest : ℕ) (small : largest �
       weight_most g.weight _ _ (max 36000 largest) wait.weighs time.0 (omega (arith, most)))
       l
 
-  under : Under lags (max 36000 largest)
-  under = λ k d h. under_one (slice_index_or lags k d) (is_lag k d h)
-
   -- the listed lags are those of the tables
   from_listed : (s t : ℕ) (w : ℤ) → Listed lags s t w → Between gap stops legs ps s t w
   from_listed s t w = (listed (record { from = s; to = t; weight = w })).0
@@ -91,18 +89,15 @@ module _ (gap : ℕ → ℕ → ℕ → ℕ) (largest : ℕ) (small : largest �
     times = α;
     one_each = n;
     written = w;
-    least = (
-      solution_over (Between gap stops legs ps) (Listed lags) to_listed (λ s. slice_index α s) e.least.0,
-      λ β k v. e.least.1 β (solution_over (Listed lags) (Between gap stops legs ps) from_listed β k) v,
-    );
-    low = λ s. subst (λ m. slice_index α s ≤ (m - 1) * max 36000 largest) n (e.ceiling (max 36000 largest) under s);
+    least = least_over (Between gap stops legs ps) (Listed lags) to_listed from_listed (λ s. slice_index α s) e.least;
+    low = λ s. subst (λ m. slice_index α s ≤ (m - 1) * max 36000 largest) n (e.ceiling (max 36000 largest) (all under_one) s);
     ring_stands = r;
   }
 
   -- no arrival is too large for the timetable
   pub times_fit : (α : List ℕ) → Earliest lags α → length α ≡ length stops → (i : ℕ) → slice_index α i < 2 ^ 32
   times_fit α e n i =
-      let c = e.ceiling 100000 (λ k d h. (allowed_one (slice_index_or lags k d) (is_lag k d h)).1.1) i in
+      let c = e.ceiling 100000 (all (λ g l. (allowed_one g l).1.1)) i in
       let few = ready.consistent.few in
       omega (arith, c)
 

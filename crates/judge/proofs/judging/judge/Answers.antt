@@ -2,20 +2,17 @@ use Rattle.std.proofs.Common.{ℕ, max, length, refl, ap, subst, ⊎_elim, arith
 use Rattle.std.proofs.lemmas.Result.{err_from_is_err_and}
 use Rattle.judge.specs.Lowest.{Lowest}
 use Rattle.sheet.specs.Sheets.{carriers_of, stops_of, precedences_of}
-use Rattle.sheet.proofs.Facts as facts
 use Rattle.judge.specs.Legs.{ShortOfGoal}
 use Rattle.judge.specs.Routing.{Routed}
 use Rattle.judge.specs.Settling.{Pages}
 use Rattle.judge.proofs.InFull.{judged_fully}
 use Rattle.judge.proofs.Judgements.{judged_short, judged_away, judged_routed}
-use Rattle.judge.proofs.Routings.{routed_same, routed_within}
+use Rattle.judge.proofs.Routings.{routed_within}
 use Rattle.judge.proofs.Tabled.{consistent}
 use Rattle.judge.proofs.judging.judge.Goals as goal
 
 pub invariant_of-routes : goal.invariant_of-routes
-invariant_of-routes g c =
-    let own = c.args.sheet.now in
-    record { consistent = consistent _ _ _ _ _ _ c.stops-stops.ensures c.precedences.ensures (facts.few_carriers own) refl (facts.few_stops own) (facts.few_precedences own) own.linked own.carried own.lawful }
+invariant_of-routes g c = record { consistent = consistent c.args.sheet.now _ _ c.stops-stops.ensures c.precedences.ensures }
 
 pub returns-then-timetable-stops : goal.returns-then-timetable-stops
 returns-then-timetable-stops g c =
@@ -51,9 +48,8 @@ returns g c =
     let gaps = g.R.FollowingRule.gaps c.args.rule.now in
     let largest = g.R.FollowingRule.LARGEST_GAP in
     let pages : Pages = record { timetable = c.args.timetable.now; ring = c.args.ring.now; timetable_after = c.judge_routes.new.timetable; ring_after = c.judge_routes.new.ring } in
-    let routed : Routed lanes gaps (max 36000 largest) (stops_of own) (precedences_of own) pages c.judge_routes.result =
-    routed_same lanes gaps (max 36000 largest) pages c.judge_routes.result _ _ _ _ stops precedences c.judge_routes.ensures in
-    let home : (k : ℕ) → ¬ ShortOfGoal (carriers_of own) k = subst (λ xs. (k : ℕ) → ¬ ShortOfGoal xs k) carriers c.in_ok-check_goals.ensures in
+    let routed = rw (stops, precedences) at c.judge_routes.ensures in
+    let home = rw carriers at c.in_ok-check_goals.ensures in
     let long = ap length stops in
     let J = judged_routed own lanes gaps largest (g.met.Y.Yard.limited _) pages (omega arith, omega arith) home c.judge_routes.result routed in
     judged_fully _ _ J (routed_within lanes gaps (max 36000 largest) _ _ pages (omega arith) c.judge_routes.auto.ring c.judge_routes.result c.judge_routes.ensures)
