@@ -1,5 +1,5 @@
 -- What is concluded and shown, as the answer says it in full.
-use Rattle.std.proofs.Common.{◌≤◌, length, slice_index, Some, None, Option, refl, sym, subst, arith}
+use Rattle.std.proofs.Common.{◌≤◌, length, slice_index, Some, None, Option, refl, sym, subst, arith, rules}
 use native.Mathlib.Nat.{le-min, min-le_left, min-le_right}
 use Rattle.sheet.specs.Book.{Book}
 use Rattle.judge.specs.Findings.{Finding, not_at_goal, no_lane, undecided, head_on, in_a_ring, passes, Finds}
@@ -18,31 +18,12 @@ module _ (j : Judging) (b : Book) where
       (omega arith, omega arith)
 
   answers : (finding : Finding) → length b.stops ≤ room_of j.pages → Finds (setting_in j) b finding → Shows j.pages j.answer (Some finding) → Judged j b
-  answers (not_at_goal c) fit finds shown = subst (Answers j b) (sym shown.0) (long fit, finds, shown.1)
-  answers (no_lane t) fit finds shown = subst (Answers j b) (sym shown.0) (long fit, finds.0, finds.1, shown.1)
-  answers (undecided s t) fit finds shown = subst (Answers j b) (sym shown.0) (long fit, finds.0, finds.1, finds.2, shown.1)
-  answers (head_on s t) fit finds shown = subst (Answers j b) (sym shown.0) (long fit, finds.0, finds.1, finds.2, shown.1)
-  answers (in_a_ring stops) fit finds shown = subst (Answers j b) (sym shown.0) (
-    long fit,
-    finds.0,
-    finds.1,
-    finds.3,
-    record { stops = stops; long = refl; ring = finds.2; written = shown.1; timetable_stands = shown.2 },
-  )
-  answers (passes times) fit finds shown = subst (Answers j b) (sym shown.0) (
-    long fit,
-    finds.0,
-    ((λ s. slice_index times s), finds.1.earliest.good),
-    record {
-      all_stops = finds.1.one_each;
-      times = times;
-      one_each = finds.1.one_each;
-      written = shown.1;
-      earliest = finds.1.earliest;
-      ceiling = finds.1.ceiling;
-      ring_stands = shown.2;
-    },
-  )
+  answers (not_at_goal c) fit finds shown = search (rules, long)
+  answers (no_lane t) fit finds shown = search (rules, long)
+  answers (undecided s t) fit finds shown = search (rules, long)
+  answers (head_on s t) fit finds shown = search (rules, long)
+  answers (in_a_ring stops) fit finds shown = search (rules, long)
+  answers (passes times) fit finds shown = search (rules, long)
 
   in_full : (found : Option Finding) → Concludes (setting_in j) b (room_of j.pages) found → Shows j.pages j.answer found → Judged j b
   in_full None short shown = subst (Answers j b) (sym shown.0) ((λ fit. let l = le-min fit.0 fit.1 in absurd (omega arith)), shown.1)

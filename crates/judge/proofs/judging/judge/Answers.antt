@@ -16,27 +16,15 @@ invariant_of-routes g c = record { consistent = consistent c.args.sheet.now _ _ 
 
 pub returns-then-timetable-stops : goal.returns-then-timetable-stops
 returns-then-timetable-stops g c =
-    let own = c.args.sheet.now in
-    let lanes = g.Y.Yard.lanes c.args.yard.now in
-    let gaps = g.R.FollowingRule.gaps c.args.rule.now in
-    let pages : Pages = record { timetable = c.args.timetable.now; ring = c.args.ring.now; timetable_after = c.args.timetable.now; ring_after = c.args.ring.now } in
     let long = ap length c.stops-stops.ensures in
-    let J = judged_short own lanes gaps g.R.FollowingRule.LARGEST_GAP (g.met.Y.Yard.limited _) pages
-    (λ f. ⊎_elim (λ a. omega (arith, f.0)) (λ a. omega (arith, f.1, a.1)) c.then-timetable-stops.either) (refl, refl) in
-    judged_fully _ _ J tt
+    judged_fully _ _ (judged_short c.args.sheet.now _ _ _ (g.met.Y.Yard.limited _) _ (λ f. grind (arith, f, long, c.then-timetable-stops.either)) (refl, refl)) tt
 
 pub returns-in_err-check_goals : goal.returns-in_err-check_goals
 returns-in_err-check_goals g c =
-    let own = c.args.sheet.now in
-    let lanes = g.Y.Yard.lanes c.args.yard.now in
-    let gaps = g.R.FollowingRule.gaps c.args.rule.now in
-    let pages : Pages = record { timetable = c.args.timetable.now; ring = c.args.ring.now; timetable_after = c.args.timetable.now; ring_after = c.args.ring.now } in
     let long = ap length c.stops-stops.ensures in
-    let away = c.in_err-check_goals.ensures in
-    let low = subst (λ xs. Lowest (ShortOfGoal xs) away.0) c.carriers.ensures away.2 in
-    let J = judged_away own lanes gaps g.R.FollowingRule.LARGEST_GAP (g.met.Y.Yard.limited _) pages (omega arith, omega arith) away.0 low (refl, refl) in
+    let away = rw c.carriers.ensures at c.in_err-check_goals.ensures in
     let p = err_from_is_err_and c.from_residual.result c.from_residual.ensures.1 in
-    rw (p.1, p.2, away.1) (judged_fully _ _ J tt)
+    rw (p.1, p.2, away.1) (judged_fully _ _ (judged_away c.args.sheet.now _ _ _ (g.met.Y.Yard.limited _) _ (omega arith, omega arith) away.0 away.2 (refl, refl)) tt)
 
 pub returns : goal.returns
 returns g c =
