@@ -18,12 +18,7 @@ module _ (j : Judging) (b : Book) where
       (omega arith, omega arith)
 
   answers : (finding : Finding) → length b.stops ≤ room_of j.pages → Finds (setting_in j) b finding → Shows j.pages j.answer (Some finding) → Judged j b
-  answers (not_at_goal c) fit finds shown = search (rules, long)
-  answers (no_lane t) fit finds shown = search (rules, long)
-  answers (undecided s t) fit finds shown = search (rules, long)
-  answers (head_on s t) fit finds shown = search (rules, long)
-  answers (in_a_ring stops) fit finds shown = search (rules, long)
-  answers (passes times) fit finds shown = search (rules, long)
+  answers finding fit finds shown = search (rules, long)
 
   in_full : (found : Option Finding) → Concludes (setting_in j) b (room_of j.pages) found → Shows j.pages j.answer found → Judged j b
   in_full None short shown = subst (Answers j b) (sym shown.0) ((λ fit. let l = le-min fit.0 fit.1 in absurd (omega arith)), shown.1)

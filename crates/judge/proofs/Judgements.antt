@@ -261,9 +261,9 @@ passes_or_not : (j : Judging) (b : Book) → Complete j.lanes b → (f : Finding
 passes_or_not j b c (not_at_goal k) f shown = let a = f.0 in absurd (a.not_reached (c.home k a.goal a.its_goal))
 passes_or_not j b c (no_lane t) f shown = let o = f.1.0 in let d = c.on_lanes o.c o.s o.u t o.v o.step in cc (d.1, o.no_lane)
 passes_or_not j b c (undecided s t) f shown = let o = f.2.0 in absurd (o.nobody_first (c.decided o.c o.e s t o.u o.other o.here o.there))
-passes_or_not j b c (head_on s t) f shown = inr (ap is_ok shown.0, f.2)
-passes_or_not j b c (in_a_ring stops) f shown = inr (ap is_ok shown.0, f.3)
-passes_or_not j b c (passes times) f shown = inl (ap is_ok shown.0, ((λ s. slice_index times s), f.1.earliest.good))
+passes_or_not j b c (head_on s t) f shown = search rules
+passes_or_not j b c (in_a_ring stops) f shown = search rules
+passes_or_not j b c (passes times) f shown = search rules
 
 -- an answer that is so passes exactly the sheets that some plan keeps
 pub exactly : (j : Judging) (b : Book) → Concluded j b → PassesExactly j b

@@ -28,16 +28,8 @@ returns-in_err-check_goals g c =
 
 pub returns : goal.returns
 returns g c =
-    let own = c.args.sheet.now in
-    let stops = c.stops-stops.ensures in
-    let precedences = c.precedences.ensures in
-    let carriers = c.carriers.ensures in
-    let lanes = g.Y.Yard.lanes c.args.yard.now in
-    let gaps = g.R.FollowingRule.gaps c.args.rule.now in
-    let largest = g.R.FollowingRule.LARGEST_GAP in
-    let pages : Pages = record { timetable = c.args.timetable.now; ring = c.args.ring.now; timetable_after = c.judge_routes.new.timetable; ring_after = c.judge_routes.new.ring } in
-    let routed = rw (stops, precedences) at c.judge_routes.ensures in
-    let home = rw carriers at c.in_ok-check_goals.ensures in
-    let long = ap length stops in
-    let J = judged_routed own lanes gaps largest (g.met.Y.Yard.limited _) pages (omega arith, omega arith) home c.judge_routes.result routed in
-    judged_fully _ _ J (routed_within lanes gaps (max 36000 largest) _ _ pages (omega arith) c.judge_routes.auto.ring c.judge_routes.result c.judge_routes.ensures)
+    let long = ap length c.stops-stops.ensures in
+    let routed = rw (c.stops-stops.ensures, c.precedences.ensures) at c.judge_routes.ensures in
+    let home = rw c.carriers.ensures at c.in_ok-check_goals.ensures in
+    judged_fully _ _ (judged_routed c.args.sheet.now _ _ _ (g.met.Y.Yard.limited _) _ (omega arith, omega arith) home _ routed)
+    (routed_within _ _ _ _ _ _ (omega arith) c.judge_routes.auto.ring _ c.judge_routes.ensures)
