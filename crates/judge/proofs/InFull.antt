@@ -10,19 +10,8 @@ use Rattle.judge.specs.Shown.{Concluded, Concludes, Shows, room_of, setting_in}
 use Rattle.judge.proofs.Judgements.{exactly}
 
 module _ (j : Judging) (b : Book) where
-  -- both pages have as many numbers as their room
-  long : length b.stops ≤ room_of j.pages → Long j b
-  long h =
-      let left = min-le_left (length j.pages.timetable) (length j.pages.ring) in
-      let right = min-le_right (length j.pages.timetable) (length j.pages.ring) in
-      (omega arith, omega arith)
-
-  answers : (finding : Finding) → length b.stops ≤ room_of j.pages → Finds (setting_in j) b finding → Shows j.pages j.answer (Some finding) → Judged j b
-  answers finding fit finds shown = search (rules, long)
-
   in_full : (found : Option Finding) → Concludes (setting_in j) b (room_of j.pages) found → Shows j.pages j.answer found → Judged j b
-  in_full None short shown = subst (Answers j b) (sym shown.0) ((λ fit. let l = le-min fit.0 fit.1 in absurd (omega arith)), shown.1)
-  in_full (Some finding) (fit, finds) shown = answers finding fit finds shown
+  in_full found concludes shown = search rules
 
   judged_in_full : Concluded j b → Judged j b
   judged_in_full c = in_full c.found c.concludes c.shown

@@ -226,12 +226,12 @@ module _ (sheet : Sheet) (lanes : Lanes) (gap : Gaps) (largest : ℕ) (limited :
 
     -- the pages have a number for each stop just when they have one for each record of a stop
     long : Fits → length b.stops ≤ room_of p
-    long f = rw stops_long (le-min f.0 f.1)
+    long f = omega (arith, stops_long, f.0, f.1)
 
     pub judged_short : ¬ Fits → Untouched p → Concluded (judging (Err PageTooShort)) b
     judged_short no_fit u = record {
       found = None;
-      concludes = lt_of_not-le (λ l. no_fit (let e = stops_long in let left = min-le_left (length p.timetable) (length p.ring) in let right = min-le_right (length p.timetable) (length p.ring) in (omega arith, omega arith)));
+      concludes = grind (arith, stops_long);
       shown = (refl, u);
     }
 
@@ -270,6 +270,6 @@ pub exactly : (j : Judging) (b : Book) → Concluded j b → PassesExactly j b
 exactly j b judged = go judged.found judged.concludes judged.shown
   where
     go : (found : Option Finding) → Concludes (setting_in j) b (room_of j.pages) found → Shows j.pages j.answer found → PassesExactly j b
-    go None short shown = λ fit c. let l = le-min fit.0 fit.1 in absurd (omega arith)
+    go None short shown = λ fit c. absurd (omega (arith, fit.0, fit.1))
     go (Some f) (l, finds) shown = λ _ c.
         grind (arith, passes_or_not j b c f finds shown)
