@@ -22,9 +22,9 @@ weight_low w g t e h = omega (arith, ints)
 weight_most : (w : ℤ) (g t m : ℕ) → w ≡ (pos (g + 1) -ℤ pos t) → 1 ≤ t → g ≤ m → w ≤ℤ pos m
 weight_most w g t m e h k = omega (arith, ints)
 
-module _ (gap : ℕ → ℕ → ℕ → ℕ) (largest : ℕ) (small : largest ≤ 100000) (bounded : (from to time : ℕ) → 1 ≤ time → time ≤ 36000 → gap from to time ≤ largest)
-    (stops : List Stop) (legs : List Leg) (ps : List Precedence)
-    (ready : Ready stops ps legs) (items : List Lag) (gathered : Lists (LagOf gap stops legs ps (length stops) (length ps)) items) (lags : List Lag) (same : lags ≡ items) where
+module _ {gap : ℕ → ℕ → ℕ → ℕ} {largest : ℕ} (small : largest ≤ 100000) (bounded : (from to time : ℕ) → 1 ≤ time → time ≤ 36000 → gap from to time ≤ largest)
+    {stops : List Stop} {legs : List Leg} {ps : List Precedence}
+    (ready : Ready stops ps legs) {items : List Lag} (gathered : Lists (LagOf gap stops legs ps (length stops) (length ps)) items) {lags : List Lag} (same : lags ≡ items) where
   abbrev IsLag : Lag → Type 0
   IsLag g = LagOf gap stops legs ps (length stops) (length ps) g
 
