@@ -2,11 +2,11 @@
 use Rattle.std.proofs.Common.{◌≡◌, ℕ, ◌+◌, ◌-◌, ◌%◌, ◌<◌, ◌≤◌, Bool, List, length, slice_index_or, set, replicate, Some, None, unwrap_or, Option, ⊎_elim, arith}
 use Rattle.std.proofs.lemmas.Grind.{elements}
 use Rattle.std.proofs.lemmas.Bool.{cases_eq}
-use Rattle.std.proofs.lemmas.List.{get_or-replicate}
 use Rattle.sheet.specs.declared.records.Stop.{Stop}
 use Rattle.sheet.specs.Records.{no_stop}
 use Rattle.judge.specs.Chains.{ChainedFrom, LowestFrom, part_of}
 use Rattle.judge.specs.Meetings.{OpenMeeting}
+use Rattle.judge.proofs.Alike.{all_alike}
 
 module _ (stops : List Stop) where
   pub chained_more : (s n : ℕ) (later latest : List (Option ℕ)) → s ≡ n + 1 → n < length stops → length later ≡ length stops → length latest ≡ 4096 → ChainedFrom stops s later latest → ChainedFrom stops n (set later n (slice_index_or latest (part_of stops n) None)) (set latest (part_of stops n) (Some n))
@@ -29,11 +29,7 @@ module _ (stops : List Stop) where
   pub chained_none : (later : List (Option ℕ)) → ChainedFrom stops (length stops) later (replicate 4096 None)
   chained_none later = record {
     follows = λ r low h. absurd (omega arith);
-    lowest = λ b h. rw (get_or-replicate {A = Option ℕ} 4096 b None None h) (record {
-      within = λ t q. (cc);
-      skips = λ t u q. (cc);
-      none = λ q u low inside e. absurd (omega arith);
-    });
+    lowest = λ b h. rw (all_alike {X = Option ℕ} 4096 b None) (record { within = λ t q. (cc); skips = λ t u q. (cc); none = λ q u low inside e. absurd (omega arith) });
   }
 
   module _ (leads : List Bool) (s : ℕ) where
@@ -57,10 +53,7 @@ module _ (stops : List Stop) where
     pub left_more : (o o' : Option ℕ) (t : ℕ) → o ≡ Some t → Left o → ¬ OpenMeeting stops leads s t → LowestFrom stops (t + 1) (part_of stops t) o' → Left o'
     left_more o o' t q left closed next =
         let w = left.within t q in
-        left_from (t + 1) o' (omega (arith, w.0)) (rw w.2 at next) (λ k h m. ⊎_elim
-        (λ e. closed (rw e at m))
-        (λ ne. left.none_below t k q (omega arith) m)
-        (cases_eq k t))
+        left_from (t + 1) o' (omega (arith, w.0)) (rw w.2 at next) (λ k h m. grind (arith, closed, left.none_below t k q, m))
 
 -- what is left falls with each link
 pub link_smaller : (n t : ℕ) (o o' : Option ℕ) → o ≡ Some t → t < n → ((u : ℕ) → o' ≡ Some u → t < u) → n - unwrap_or o' n < n - unwrap_or o n
