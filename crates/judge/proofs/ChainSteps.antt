@@ -1,9 +1,8 @@
 -- One more stop, while the stops are linked by place, and one more link, while they are followed.
-use Rattle.std.proofs.Common.{◌≡◌, ℕ, ◌+◌, ◌-◌, ◌%◌, ◌<◌, ◌≤◌, Bool, List, length, slice_index_or, set, replicate, Some, None, unwrap_or, Option, ⊎_elim, arith}
+use Rattle.std.proofs.Common.{◌≡◌, ℕ, ◌+◌, ◌-◌, ◌<◌, Bool, List, length, slice_index_or, set, replicate, Some, None, unwrap_or, Option, ⊎_elim, arith}
 use Rattle.std.proofs.lemmas.Grind.{elements}
 use Rattle.std.proofs.lemmas.Bool.{cases_eq}
 use Rattle.sheet.specs.declared.records.Stop.{Stop}
-use Rattle.sheet.specs.Records.{no_stop}
 use Rattle.judge.specs.Chains.{ChainedFrom, LowestFrom, part_of}
 use Rattle.judge.specs.Meetings.{OpenMeeting}
 use Rattle.judge.proofs.Alike.{all_alike}
@@ -19,10 +18,10 @@ module _ (stops : List Stop) where
             (λ ne. grind (arith, elements, before.follows r))
             (cases_eq r n);
         lowest = λ b h. record {
-              within = λ t q. grind (arith, elements, (before.lowest b h).within t);
-              skips = λ t u q low less e. grind (arith, elements, (before.lowest b h).skips t u);
-              none = λ q u low inside e. grind (arith, elements, (before.lowest b h).none);
-            };
+          within = λ t q. grind (arith, elements, (before.lowest b h).within t);
+          skips = λ t u q low less e. grind (arith, elements, (before.lowest b h).skips t u);
+          none = λ q u low inside e. grind (arith, elements, (before.lowest b h).none);
+        };
       }
 
   -- before the first stop is linked

@@ -1,9 +1,8 @@
 -- What is concluded and shown, as the answer says it in full.
-use Rattle.std.proofs.Common.{◌≤◌, length, slice_index, Some, None, Option, refl, sym, subst, arith, rules}
-use native.Mathlib.Nat.{le-min, min-le_left, min-le_right}
+use Rattle.std.proofs.Common.{length, Option, refl, rules}
 use Rattle.sheet.specs.Book.{Book}
-use Rattle.judge.specs.Findings.{Finding, not_at_goal, no_lane, undecided, head_on, in_a_ring, passes, Finds}
-use Rattle.judge.specs.Judged.{Judging, Answers, Judged, Long}
+use Rattle.judge.specs.Findings.{Finding}
+use Rattle.judge.specs.Judged.{Judging, Judged}
 use Rattle.judge.specs.JudgedFully.{JudgedFully}
 use Rattle.judge.specs.Settling.{Within}
 use Rattle.judge.specs.Shown.{Concluded, Concludes, Shows, room_of, setting_in}

@@ -1,10 +1,9 @@
 -- From what judging found to what it answers, in the words of the subject.
-use Rattle.std.proofs.Common.{◌≡◌, ℕ, ◌-◌, ◌*◌, ◌≤◌, ◌≢◌, max, Bool, true, false, cond, eqb, ◌⊎◌, List, length, slice_index_or, slice_index, ℤ, IfSome, is_ok, Some, None, Ok, Err, Option, Result, sym, refl, ap, ◌∙◌, subst, inl, inr, ⊎_elim, lt_of_not-le, arith, rules}
-use native.Mathlib.Nat.{le-min, min-le_left, min-le_right}
+use Rattle.std.proofs.Common.{◌≡◌, ℕ, ◌≤◌, ◌≢◌, max, Bool, true, false, cond, eqb, ◌⊎◌, List, length, slice_index, ℤ, IfSome, is_ok, Some, None, Ok, Err, Option, Result, sym, refl, ap, ◌∙◌, ⊎_elim, arith, rules}
 use Rattle.std.proofs.lemmas.List.{length-map}
 use Rattle.std.proofs.lemmas.Int.{ints}
 use Rattle.std.proofs.lemmas.Bool.Decides.{nat_tests}
-use Rattle.std.proofs.lemmas.Bool.{cases_eq, eq-eqb, ne_eqb, both_ways}
+use Rattle.std.proofs.lemmas.Bool.{cases_eq, eq-eqb, ne_eqb}
 use Rattle.yard.specs.Limits.{LaneWithin}
 use Rattle.lags.specs.Ways.{Ring as RingOf, Solution, Least}
 use Rattle.lags.proofs.Ways.{least_over, ring_over}
@@ -12,7 +11,7 @@ use Rattle.sheet.specs.declared.records.Precedence.{Precedence}
 use Rattle.sheet.specs.declared.records.Stop.{Stop}
 use Rattle.sheet.specs.declared.sheets.Sheet.{Sheet}
 use Rattle.sheet.specs.Book.{Book, GoalOf, Visits, Next, Starts}
-use Rattle.sheet.specs.Records.{book_stop, no_stop}
+use Rattle.sheet.specs.Records.{book_stop}
 use Rattle.sheet.specs.Sheets.{carriers_of, stops_of, precedences_of, sheet_book}
 use Rattle.sheet.proofs.Facts as facts
 use Rattle.plan.specs.Lags.{Lag, travel, wait}

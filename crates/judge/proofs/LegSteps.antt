@@ -18,7 +18,7 @@ module _ (lanes : ℕ → ℕ → Option ℕ) (stops : List Stop) (n : ℕ) (leg
   -- a stop n with one before it, p
   pub legs_set : (legs' : List Leg) (x y : Leg) (p d : ℕ) → legs' ≡ set (set legs n x) p y → x.time ≡ d → x.next ≡ next_after legs n → y.time ≡ time_to (set legs n x) p → y.next ≡ Some n → Previous lanes stops n p → Some d ≡ lane_between lanes stops p n → n < length legs → p < n → Legs lanes stops (n + 1) legs'
   legs_set legs' x y p d same x_time x_next y_time y_next comes lane in_legs before = record {
-        timed = λ t q h e. grind (arith, elements, known.timed t q);
-        next = λ s t e. grind (arith, elements, known.next s t);
-        some_next = λ t q h e none. grind (arith, elements, known.some_next t q);
-      }
+    timed = λ t q h e. grind (arith, elements, known.timed t q);
+    next = λ s t e. grind (arith, elements, known.next s t);
+    some_next = λ t q h e none. grind (arith, elements, known.some_next t q);
+  }

@@ -41,10 +41,15 @@ module _ (stops : List Stop) (legs : List Leg) (leads : List Bool) (ps : List Pr
   -- a pair is found, beside the lowest so far, if there is one
   pub opposed_found : (p r : ℕ × ℕ) (best : Option (ℕ × ℕ)) (Q : ℕ × ℕ → Type 0) → ((a : ℕ × ℕ) → Q a → r ≡ ord_min pair_cmp p a) → MatchOption best (r ≡ p) Q → LowestOpposed stops legs leads ps n best → Found p → LowestOpposed stops legs leads ps (n + 1) (Some r)
   opposed_found p r None Q lower is old new =
-      rw is (new.0, new.1, (n, omega arith, new.2), λ s t q. ⊎_elim
-      (λ k. absurd (old s t k))
-      (λ k. grind (arith, new.3 s t k))
-      (split s t q))
+      rw is (
+        new.0,
+        new.1,
+        (n, omega arith, new.2),
+        λ s t q. ⊎_elim
+            (λ k. absurd (old s t k))
+            (λ k. grind (arith, new.3 s t k))
+            (split s t q),
+      )
   opposed_found p r (Some a) Q lower is old new =
       let l = lower_is p a r (lower a is) in
       let P : ℕ × ℕ → Type 0 = λ x. (x.0 < 1024) × (x.1 < 1024) × OpposedBelow stops legs leads ps (n + 1) x.0 x.1 in

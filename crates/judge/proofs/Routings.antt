@@ -6,11 +6,9 @@ use Rattle.sheet.specs.declared.records.Stop.{Stop}
 use Rattle.judge.specs.declared.refusal.JudgeRefusal.{JudgeRefusal}
 use Rattle.judge.specs.declared.refusal.JudgeRefusal.TheVariants.{PageTooShort, NotAtGoal, NoLane, Undecided, HeadOn, Ring}
 use Rattle.judge.specs.declared.legs.Leg.{Leg}
-use Rattle.judge.specs.Legs.{Legs, LegRefused}
 use Rattle.judge.specs.Meetings.{Leads, LowestOpposed}
-use Rattle.judge.specs.Routing.{AllDecided, Untouched, PrecedencesClear, PrecedencesRefused, Routed}
-use Rattle.judge.specs.Settling.{Pages, Settles, Within}
-use Rattle.judge.specs.Waits.{Between, Ready}
+use Rattle.judge.specs.Routing.{AllDecided, PrecedencesClear, PrecedencesRefused, Routed}
+use Rattle.judge.specs.Settling.{Pages, Within}
 
 module _ (lanes : ℕ → ℕ → Option ℕ) (gap : ℕ → ℕ → ℕ → ℕ) (most : ℕ) (stops : List Stop) (ps : List Precedence) (p : Pages) where
   -- what was answered is on the page

@@ -22,7 +22,7 @@ fn waiting_time(gap: u32, time: u16) -> i32
 }
 
 impl Tables<'_> {
-    // Adds the lag of the step to each stop that has one before it to the empty list.
+    // Adds the lag of the step to each stop that has one before it to the empty list. By `enumerate`, as the legs are found.
     fn gather_steps(self, lags: &mut Lags)
         requires { array_vec_len lags.old ≡ 0 }
         ensures few { array_vec_len lags.new ≤ length self.entry.routes.stops.now }

@@ -1,10 +1,5 @@
-use Rattle.std.proofs.Common.{ℕ, max, length, refl, ap, subst, ⊎_elim, arith}
+use Rattle.std.proofs.Common.{length, refl, ap, arith}
 use Rattle.std.proofs.lemmas.Result.{err_from_is_err_and}
-use Rattle.judge.specs.Lowest.{Lowest}
-use Rattle.sheet.specs.Sheets.{carriers_of, stops_of, precedences_of}
-use Rattle.judge.specs.Legs.{ShortOfGoal}
-use Rattle.judge.specs.Routing.{Routed}
-use Rattle.judge.specs.Settling.{Pages}
 use Rattle.judge.proofs.InFull.{judged_fully}
 use Rattle.judge.proofs.Judgements.{judged_short, judged_away, judged_routed}
 use Rattle.judge.proofs.Routings.{routed_within}
