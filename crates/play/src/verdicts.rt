@@ -16,7 +16,7 @@ use std::alloc::{AllocError, Global};
 use yard::{FollowingRule, Yard};
 
 // The refusal with the whole ring, of which the judging tells the length.
-// No conversion by `From`: a copy of the ring wants memory and reads the ring page.
+// No conversion by `From`: a copy of the ring needs memory and reads the ring page.
 fn whole_refusal(heap: Global, why: JudgeRefusal, ring: &[u16]) -> Result<SheetRefusal, AllocError>
     requires page { why ≢ PageTooShort }
     requires within { Within 0 (length ring.now) (Err why) }
