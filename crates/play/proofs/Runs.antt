@@ -3,10 +3,10 @@ use Rattle.std.proofs.Common.{◌≡◌, ℕ, ◌≤◌, Some, List, [], ◌∷�
 use Rattle.judge.specs.Findings.{Setting, Finds}
 use Rattle.judge.specs.FindingHistories.{Event, entered, judged, Happens, Lawful}
 use Rattle.plan.specs.Plans.{Lanes, Gaps}
-use Rattle.sheet.specs.Book.{Book, opened}
+use Rattle.sheet.specs.Book.{Book}
 use Rattle.sheet.specs.Calls.{Call as Entry, Answer as EntryAnswer, Answers, Leaves}
 use Rattle.sheet.specs.Histories.{History, opening, ◌▹◌}
-use Rattle.play.specs.Runs.{Beside, EnteredSo, JudgedSo, IsEvent, Played}
+use Rattle.play.specs.Runs.{Beside, EnteredSo, JudgedSo, IsEvent}
 use Rattle.play.specs.Verdicts.{VerdictResult, finding_of}
 use Rattle.play.specs.declared.answers.Answer.{Answer}
 use Rattle.play.specs.declared.answers.Answer.TheVariants.{Entered, Judged}
