@@ -1,55 +1,27 @@
 -- What is concluded and shown, as the answer says it in full.
-use Rattle.std.proofs.Common.{◌≤◌, length, get_or, Some, None, Option, refl, sym, subst, arith}
-use native.Mathlib.Nat.{le-min, min-le_left, min-le_right}
+use Rattle.std.proofs.Common.{length, Option, refl, rules}
 use Rattle.sheet.specs.Book.{Book}
-use Rattle.sheet.specs.Histories.{History, ◌▹◌}
-use Rattle.judge.specs.Findings.{Finding, not_at_goal, no_lane, undecided, head_on, in_a_ring, passes, Finds}
-use Rattle.judge.specs.Histories.{Event, judged, Lawful}
-use Rattle.judge.specs.Judged.{Judging, Answers, Judged, Long}
+use Rattle.judge.specs.Findings.{Finding}
+use Rattle.judge.specs.Judged.{Judging, Judged}
+use Rattle.judge.specs.JudgedFully.{JudgedFully}
+use Rattle.judge.specs.Settling.{Within}
 use Rattle.judge.specs.Shown.{Concluded, Concludes, Shows, room_of, setting_in}
+use Rattle.judge.proofs.Judgements.{exactly}
 
 module _ (j : Judging) (b : Book) where
-  -- both pages have as many numbers as their room
-  long : length b.stops ≤ room_of j.pages → Long j b
-  long h =
-      let left = min-le_left (length j.pages.timetable) (length j.pages.ring) in
-      let right = min-le_right (length j.pages.timetable) (length j.pages.ring) in
-      (omega arith, omega arith)
-
-  answers : (finding : Finding) → length b.stops ≤ room_of j.pages → Finds (setting_in j) b finding → Shows j.pages j.answer (Some finding) → Judged j b
-  answers (not_at_goal c) fit finds shown = subst (Answers j b) (sym shown.0) (long fit, finds, shown.1)
-  answers (no_lane t) fit finds shown = subst (Answers j b) (sym shown.0) (long fit, finds.0, finds.1, shown.1)
-  answers (undecided s t) fit finds shown = subst (Answers j b) (sym shown.0) (long fit, finds.0, finds.1, finds.2, shown.1)
-  answers (head_on s t) fit finds shown = subst (Answers j b) (sym shown.0) (long fit, finds.0, finds.1, finds.2, shown.1)
-  answers (in_a_ring stops) fit finds shown = subst (Answers j b) (sym shown.0) (
-    long fit,
-    finds.0,
-    finds.1,
-    finds.3,
-    record { stops = stops; long = refl; ring = finds.2; written = shown.1; timetable_stands = shown.2 },
-  )
-  answers (passes times) fit finds shown = subst (Answers j b) (sym shown.0) (
-    long fit,
-    finds.0,
-    ((λ s. get_or times s 0), finds.1.earliest.good),
-    record {
-      all_stops = finds.1.one_each;
-      times = times;
-      one_each = finds.1.one_each;
-      written = shown.1;
-      earliest = finds.1.earliest;
-      ceiling = finds.1.ceiling;
-      ring_stands = shown.2;
-    },
-  )
-
   in_full : (found : Option Finding) → Concludes (setting_in j) b (room_of j.pages) found → Shows j.pages j.answer found → Judged j b
-  in_full None short shown = subst (Answers j b) (sym shown.0) ((λ fit. let l = le-min fit.0 fit.1 in absurd (omega arith)), shown.1)
-  in_full (Some finding) (fit, finds) shown = answers finding fit finds shown
+  in_full found concludes shown = search rules
 
-  pub judged_in_full : Concluded j b → Judged j b
+  judged_in_full : Concluded j b → Judged j b
   judged_in_full c = in_full c.found c.concludes c.shown
 
-  -- and it goes on from every history
-  pub goes_on_in_full : Concluded j b → (h : History Event) → Lawful h b → Lawful (h ▹ judged j) b
-  goes_on_in_full c h l = (b, l, (judged_in_full c, refl))
+  -- all that is promised of it
+  pub judged_fully : Concluded j b → Within (length j.pages.timetable) (length j.pages.ring) j.answer → JudgedFully j b
+  judged_fully c within = record {
+    judges = judged_in_full c;
+    exactly = exactly j b c;
+    goes_on = λ h l. (b, l, (judged_in_full c, refl));
+    concludes = c;
+    continues = record { found = c.found; shown = c.shown; lawful = λ h l. (b, l, (c.concludes, refl)) };
+    within = within;
+  }

@@ -1,17 +1,17 @@
 -- From what judging found to what it answers, in the words of the subject.
-use Rattle.std.proofs.Common.{◌≡◌, ℕ, ◌-◌, ◌*◌, ◌≤◌, max, Bool, true, false, cond, eqb, ◌⊎◌, List, length, get_or, ℤ, IfSome, is_ok, Some, None, Ok, Err, Option, Result, sym, refl, ap, ◌∙◌, subst, inl, inr, ⊎_elim, lt_of_not-le, arith}
-use native.Mathlib.Nat.{le-min, min-le_left, min-le_right}
+use Rattle.std.proofs.Common.{◌≡◌, ℕ, ◌≤◌, ◌≢◌, max, Bool, true, false, cond, eqb, ◌⊎◌, List, length, slice_index, ℤ, IfSome, is_ok, Some, None, Ok, Err, Option, Result, sym, refl, ap, ◌∙◌, ⊎_elim, arith, rules}
 use Rattle.std.proofs.lemmas.List.{length-map}
 use Rattle.std.proofs.lemmas.Int.{ints}
-use Rattle.std.proofs.lemmas.Bool.{cases_eq, eq-eqb, ne_eqb, both_ways}
+use Rattle.std.proofs.lemmas.Bool.Decides.{nat_tests}
+use Rattle.std.proofs.lemmas.Bool.{cases_eq, eq-eqb, ne_eqb}
 use Rattle.yard.specs.Limits.{LaneWithin}
 use Rattle.lags.specs.Ways.{Ring as RingOf, Solution, Least}
-use Rattle.lags.proofs.Ways.{ring_over, solution_over}
+use Rattle.lags.proofs.Ways.{least_over, ring_over}
 use Rattle.sheet.specs.declared.records.Precedence.{Precedence}
 use Rattle.sheet.specs.declared.records.Stop.{Stop}
 use Rattle.sheet.specs.declared.sheets.Sheet.{Sheet}
 use Rattle.sheet.specs.Book.{Book, GoalOf, Visits, Next, Starts}
-use Rattle.sheet.specs.Records.{book_stop, no_stop}
+use Rattle.sheet.specs.Records.{book_stop}
 use Rattle.sheet.specs.Sheets.{carriers_of, stops_of, precedences_of, sheet_book}
 use Rattle.sheet.proofs.Facts as facts
 use Rattle.plan.specs.Lags.{Lag, travel, wait}
@@ -21,7 +21,6 @@ use Rattle.plan.proofs.Decided.{decide_in}
 use Rattle.judge.specs.declared.refusal.JudgeRefusal.{JudgeRefusal}
 use Rattle.judge.specs.declared.refusal.JudgeRefusal.TheVariants.{PageTooShort, NotAtGoal, NoLane, Undecided, HeadOn, Ring}
 use Rattle.judge.specs.Findings.{Setting, Finding, not_at_goal, no_lane, undecided, head_on, in_a_ring, passes, Finds, Impossible}
-use Rattle.judge.specs.FindingHistories.{GoesOn}
 use Rattle.judge.specs.Judged.{Judging, Away, CutOff, UndecidedAt, PassesExactly}
 use Rattle.judge.specs.Shown.{Concludes, Shows, Concluded, room_of, setting_in}
 use Rattle.judge.specs.declared.legs.Leg.{Leg}
@@ -35,13 +34,10 @@ use Rattle.judge.proofs.Meant as meant
 
 -- the lowest of which something holds, in other words
 lowest_as : (P Q : ℕ → Type 0) → ((n : ℕ) → P n → Q n) → ((n : ℕ) → Q n → P n) → (n : ℕ) → Lowest P n → Lowest Q n
-lowest_as P Q to from n (p, none) = (to n p, λ m h q. none m h (from m q))
+lowest_as P Q to from n l = search rules
 
 lowest_pair_as : (P Q : ℕ → ℕ → Type 0) → ((s t : ℕ) → P s t → Q s t) → ((s t : ℕ) → Q s t → P s t) → (s t : ℕ) → LowestPair P s t → LowestPair Q s t
-lowest_pair_as P Q to from s t (p, lower, lower_too) = (to s t p, λ r q h k. lower r q h (from r q k), λ q h k. lower_too q h (from s q k))
-
-not_some : {X : Type 0} (x : X) → Some x ≡ None → ⊥
-not_some x e = let z : ◌≡◌ {A = ℕ} 0 1 = cc in omega arith
+lowest_pair_as P Q to from s t l = search rules
 
 module _ (sheet : Sheet) (lanes : Lanes) (gap : Gaps) (largest : ℕ) (limited : (from to : ℕ) → IfSome (lanes from to) (λ time. LaneWithin from to time)) where
   abbrev b : Book
@@ -60,22 +56,22 @@ module _ (sheet : Sheet) (lanes : Lanes) (gap : Gaps) (largest : ℕ) (limited :
   positive u v d e = let w : LaneWithin u v d = rw e at (limited u v) in w.3
 
   -- no lag ends where a route starts
-  no_lag_to_start : (s t : ℕ) (w : ℤ) → Lag lanes gap b s t w → (c u : ℕ) → Starts b c t u → ⊥
+  no_lag_to_start : (s t : ℕ) (w : ℤ) → Lag lanes gap b s t w → (c u : ℕ) → ¬ Starts b c t u
   no_lag_to_start s t w (travel {c = e} {u = x} {v = v} leg) c u at =
       let o = facts.one_visit sheet t e v c u leg.next.there at.here in
-      at.first s x leg.next.later (subst (λ n. Visits b s n x) o.0 leg.next.here)
+      at.first s x leg.next.later (rw o.0 at leg.next.here)
   no_lag_to_start s t w (wait k {first = first} {second = second} {u = x} stands leg visit) c u at =
       let f = facts.second_follows sheet k first second x t stands visit in
       let o = facts.one_visit sheet t second x c u visit at.here in
-      at.first f.0 f.1 f.2.later (subst (λ n. Visits b f.0 n f.1) o.0 f.2.here)
+      at.first f.0 f.1 f.2.later (cc (f.2.here, o.0))
 
   -- the least solution is 0 where a route starts
   from_zero : (α : ℕ → ℕ) → Least (Lag lanes gap b) α → FromZero b α
-  from_zero α (keeps, least) c s u at =
+  from_zero α (keeps, least) c s u starts =
       let β : ℕ → ℕ = λ t. cond (eqb t s) 0 (α t) in
-      let low : (t : ℕ) → β t ≤ α t = λ t. ⊎_elim (λ e. rw (eq-eqb t s e) (omega arith)) (λ ne. rw (ne_eqb t s ne) (omega arith)) (cases_eq t s) in
+      let low : (t : ℕ) → β t ≤ α t = λ t. search (rules, nat_tests) in
       let kept : Solution (Lag lanes gap b) β = λ r t w lag.
-      let ne : t ≡ s → ⊥ = λ e. no_lag_to_start r t w lag c u (subst (λ n. Starts b c n u) (sym e) at) in
+      let ne : t ≢ s = λ e. no_lag_to_start r t w lag c u (rw e starts) in
       let same : β t ≡ α t = rw (ne_eqb t s ne) in
       let k = keeps r t w lag in
       let l = low r in
@@ -85,16 +81,16 @@ module _ (sheet : Sheet) (lanes : Lanes) (gap : Gaps) (largest : ℕ) (limited :
       omega arith
 
   -- a sheet whose routes are all home
-  module _ (home : (c : ℕ) → ShortOfGoal (carriers_of sheet) c → ⊥) where
-    all_home : (c : ℕ) → Away b c → ⊥
+  module _ (home : (c : ℕ) → ¬ ShortOfGoal (carriers_of sheet) c) where
+    all_home : (c : ℕ) → ¬ Away b c
     all_home c a = home c (meant.short sheet c a)
 
     reached : (c v : ℕ) → GoalOf b c v → (s : ℕ) × Visits b s c v
     reached c v g =
         let f = facts.goes_from sheet c g.0 v g.1 in
         ⊎_elim
-        (λ e. (f.0.last_stop, subst (λ x. Visits b f.0.last_stop c x) f.3 (facts.stops_at_goal sheet c f.0 f.1 e)))
-        (λ ne. absurd (all_home c (record { goal = v; its_goal = g; not_reached = λ (t, at). facts.no_stop_at_goal sheet c f.0 f.1 ne t (subst (λ x. Visits b t c x) (sym f.3) at) })))
+        (λ e. (f.0.last_stop, rw f.3 at (facts.stops_at_goal sheet c f.0 f.1 e)))
+        (λ ne. absurd (all_home c (record { goal = v; its_goal = g; not_reached = λ (t, visit). facts.no_stop_at_goal sheet c f.0 f.1 ne t (rw f.3 visit) })))
         (cases_eq f.0.last_place f.0.goal)
 
     module _ (legs : List Leg) (known : Legs lanes ss (length ss) legs) where
@@ -103,10 +99,10 @@ module _ (sheet : Sheet) (lanes : Lanes) (gap : Gaps) (largest : ℕ) (limited :
           let p = meant.previous sheet lanes c s u t v on in
           let here = meant.visited sheet s c u on.here in
           let there = meant.visited sheet t c v on.there in
-          (time_to legs t, subst (λ x. lanes x v ≡ Some (time_to legs t)) here.2 (subst (λ y. lanes (get_or ss s no_stop).place y ≡ Some (time_to legs t)) there.2 (known.timed t s there.0 p)))
+          (time_to legs t, rw (here.2, there.2) at (known.timed t s there.0 p))
 
-      all_on_lanes : (t : ℕ) → CutOff lanes b t → ⊥
-      all_on_lanes t o = let l = on_lanes o.c o.s o.u t o.v o.step in not_some l.0 (sym l.1 ∙ o.no_lane)
+      all_on_lanes : (t : ℕ) → ¬ CutOff lanes b t
+      all_on_lanes t o = let l = on_lanes o.c o.s o.u t o.v o.step in cc (l.1, o.no_lane)
 
       orderly : Orderly lanes b
       orderly = record {
@@ -124,7 +120,7 @@ module _ (sheet : Sheet) (lanes : Lanes) (gap : Gaps) (largest : ℕ) (limited :
       Listed = Between gap ss legs ps
 
       -- and whose meetings are all decided
-      module _ (leads : List Bool) (marks : Leads ps (length ps) leads) (all_decided : (s t : ℕ) → OpenMeeting ss leads s t → ⊥) where
+      module _ (leads : List Bool) (marks : Leads ps (length ps) leads) (all_decided : (s t : ℕ) → ¬ OpenMeeting ss leads s t) where
         complete : Complete lanes b
         complete = record { home = reached; on_lanes = on_lanes; decided = meant.decided sheet lanes legs known leads marks all_decided }
 
@@ -137,28 +133,27 @@ module _ (sheet : Sheet) (lanes : Lanes) (gap : Gaps) (largest : ℕ) (limited :
               λ q h o. let n = lowest s q (at s q o) in let m = n.1 refl in omega arith,
             )
 
-        opposed_excludes : (s t : ℕ) → Opposed lanes b s t → Possible lanes gap b → ⊥
+        opposed_excludes : (s t : ℕ) → Opposed lanes b s t → ¬ Possible lanes gap b
         opposed_excludes s t o (α, good) = (decide_in lanes gap b positive orderly).opposed_none s t o α good
 
         module _ (none_set : LowestOpposed ss legs leads ps (length ps) None) where
-          none_opposed : (s t : ℕ) → Opposed lanes b s t → ⊥
+          none_opposed : (s t : ℕ) → ¬ Opposed lanes b s t
           none_opposed s t o = none_set s t (meant.opposed_at sheet lanes legs known leads marks s t o)
 
           -- the lags worked out
           earliest : (α : ℕ → ℕ) → Least Listed α → Earliest lanes gap b α
-          earliest α (keeps, least) =
+          earliest α listed =
               let D = decide_in lanes gap b positive orderly in
-              let kept = solution_over (Lag lanes gap b) Listed (meant.lag_is sheet lanes legs known gap) α keeps in
-              let least' : (β : ℕ → ℕ) → Solution (Lag lanes gap b) β → (v : ℕ) → α v ≤ β v = λ β k. least β (solution_over Listed (Lag lanes gap b) (meant.is_lag sheet lanes legs known gap) β k) in
+              let found = least_over (Lag lanes gap b) Listed (meant.lag_is sheet lanes legs known gap) (meant.is_lag sheet lanes legs known gap) α listed in
               record {
-                good = D.kept_good complete none_opposed α (from_zero α (kept, least')) kept;
-                least = λ β good s h. least' β (D.good_keeps β good) s;
+                good = D.kept_good complete none_opposed α (from_zero α found) found.0;
+                least = λ β good s h. found.1 β (D.good_keeps β good) s;
               }
 
           ringed : (l : List ℕ) → RingOf Listed l → RingOf (Lag lanes gap b) l
           ringed l ring = ring_over Listed (Lag lanes gap b) (meant.is_lag sheet lanes legs known gap) l ring
 
-          impossible : (l : List ℕ) → RingOf (Lag lanes gap b) l → Possible lanes gap b → ⊥
+          impossible : (l : List ℕ) → RingOf (Lag lanes gap b) l → ¬ Possible lanes gap b
           impossible l ring (α, good) = (decide_in lanes gap b positive orderly).ring_none l ring α good
 
   abbrev y : Setting
@@ -168,7 +163,7 @@ module _ (sheet : Sheet) (lanes : Lanes) (gap : Gaps) (largest : ℕ) (limited :
   found_away c l = lowest_as (ShortOfGoal (carriers_of sheet)) (Away b) (meant.away sheet) (meant.short sheet) c l
 
   -- what is found of routes that are all home
-  module _ (p : Pages) (home : (c : ℕ) → ShortOfGoal (carriers_of sheet) c → ⊥) where
+  module _ (p : Pages) (home : (c : ℕ) → ¬ ShortOfGoal (carriers_of sheet) c) where
     cut_off : (t : ℕ) → NoLaneTo lanes ss t → Finds y b (no_lane t)
     cut_off t n = (
       all_home home,
@@ -204,8 +199,8 @@ module _ (sheet : Sheet) (lanes : Lanes) (gap : Gaps) (largest : ℕ) (limited :
           complete home w.legs w.known c.leads c.marks c.decided,
           record {
             one_each = t.one_each ∙ sym stops_long;
-            earliest = earliest home w.legs w.known c.leads c.marks c.decided c.none_opposed (λ s. get_or t.times s 0) t.least;
-            ceiling = λ s. subst (λ m. get_or t.times s 0 ≤ (m - 1) * max 36000 largest) (sym stops_long) (t.low s);
+            earliest = earliest home w.legs w.known c.leads c.marks c.decided c.none_opposed (λ s. slice_index t.times s) t.least;
+            ceiling = λ s. rw stops_long (t.low s);
           },
         )
 
@@ -230,12 +225,12 @@ module _ (sheet : Sheet) (lanes : Lanes) (gap : Gaps) (largest : ℕ) (limited :
 
     -- the pages have a number for each stop just when they have one for each record of a stop
     long : Fits → length b.stops ≤ room_of p
-    long f = rw stops_long (le-min f.0 f.1)
+    long f = omega (arith, stops_long, f.0, f.1)
 
-    pub judged_short : (Fits → ⊥) → Untouched p → Concluded (judging (Err PageTooShort)) b
+    pub judged_short : ¬ Fits → Untouched p → Concluded (judging (Err PageTooShort)) b
     judged_short no_fit u = record {
       found = None;
-      concludes = lt_of_not-le (λ l. no_fit (let e = stops_long in let left = min-le_left (length p.timetable) (length p.ring) in let right = min-le_right (length p.timetable) (length p.ring) in (omega arith, omega arith)));
+      concludes = grind (arith, stops_long);
       shown = (refl, u);
     }
 
@@ -247,7 +242,7 @@ module _ (sheet : Sheet) (lanes : Lanes) (gap : Gaps) (largest : ℕ) (limited :
       pub judged_away : (c : ℕ) → Lowest (ShortOfGoal (carriers_of sheet)) c → Untouched p → Concluded (judging (Err (NotAtGoal c))) b
       judged_away c l u = conclude (Err (NotAtGoal c)) (not_at_goal c) (found_away c l) (refl, u)
 
-      pub judged_routed : ((c : ℕ) → ShortOfGoal (carriers_of sheet) c → ⊥) → (r : Result ℕ JudgeRefusal) → Routed lanes gap (max 36000 largest) ss ps p r → Concluded (judging r) b
+      pub judged_routed : ((c : ℕ) → ¬ ShortOfGoal (carriers_of sheet) c) → (r : Result ℕ JudgeRefusal) → Routed lanes gap (max 36000 largest) ss ps p r → Concluded (judging r) b
       judged_routed home (Ok n) w =
           let t = w.settles.1 in
           conclude (Ok n) (passes t.times) (passing p home n w) (ap Ok (w.settles.0 ∙ sym t.one_each), t.written, t.ring_stands)
@@ -263,24 +258,17 @@ module _ (sheet : Sheet) (lanes : Lanes) (gap : Gaps) (largest : ℕ) (limited :
 -- a finding, beside a complete sheet: it passes, and then some plan is good, or no plan is
 passes_or_not : (j : Judging) (b : Book) → Complete j.lanes b → (f : Finding) → Finds (setting_in j) b f → Shows j.pages j.answer (Some f) → ((is_ok j.answer ≡ true) × Possible j.lanes j.gap b) ⊎ ((is_ok j.answer ≡ false) × Impossible (setting_in j) b)
 passes_or_not j b c (not_at_goal k) f shown = let a = f.0 in absurd (a.not_reached (c.home k a.goal a.its_goal))
-passes_or_not j b c (no_lane t) f shown = let o = f.1.0 in let d = c.on_lanes o.c o.s o.u t o.v o.step in absurd (not_some d.0 (sym d.1 ∙ o.no_lane))
+passes_or_not j b c (no_lane t) f shown = let o = f.1.0 in let d = c.on_lanes o.c o.s o.u t o.v o.step in cc (d.1, o.no_lane)
 passes_or_not j b c (undecided s t) f shown = let o = f.2.0 in absurd (o.nobody_first (c.decided o.c o.e s t o.u o.other o.here o.there))
-passes_or_not j b c (head_on s t) f shown = inr (ap is_ok shown.0, f.2)
-passes_or_not j b c (in_a_ring stops) f shown = inr (ap is_ok shown.0, f.3)
-passes_or_not j b c (passes times) f shown = inl (ap is_ok shown.0, ((λ s. get_or times s 0), f.1.earliest.good))
+passes_or_not j b c (head_on s t) f shown = search rules
+passes_or_not j b c (in_a_ring stops) f shown = search rules
+passes_or_not j b c (passes times) f shown = search rules
 
 -- an answer that is so passes exactly the sheets that some plan keeps
 pub exactly : (j : Judging) (b : Book) → Concluded j b → PassesExactly j b
 exactly j b judged = go judged.found judged.concludes judged.shown
   where
     go : (found : Option Finding) → Concludes (setting_in j) b (room_of j.pages) found → Shows j.pages j.answer found → PassesExactly j b
-    go None short shown = λ fit c. let l = le-min fit.0 fit.1 in absurd (omega arith)
+    go None short shown = λ fit c. absurd (omega (arith, fit.0, fit.1))
     go (Some f) (l, finds) shown = λ _ c.
-        ⊎_elim
-        (λ (ok, possible). (λ _. possible, λ _. ok))
-        (λ (fails, impossible). (λ ok. absurd (both_ways (is_ok j.answer) fails ok), λ possible. absurd (impossible possible)))
-        (passes_or_not j b c f finds shown)
-
--- what is found goes on from every history
-pub goes_on : (j : Judging) (b : Book) → Concluded j b → GoesOn j b
-goes_on j b judged = record { found = judged.found; shown = judged.shown; lawful = λ h l. (b, l, (judged.concludes, refl)) }
+        grind (arith, passes_or_not j b c f finds shown)

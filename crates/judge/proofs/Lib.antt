@@ -1,10 +1,8 @@
 pub mod Alike
 pub mod LegSteps
 pub mod ChainSteps
-pub mod LeadSteps
 pub mod OpposedSteps
 pub mod WaitSteps
-pub mod Fronts
 pub mod Settlings
 pub mod Tabled
 pub mod Routings

@@ -1,5 +1,5 @@
 -- What judging's tables mean in the words of the book.
-use Rattle.std.proofs.Common.{◌≡◌, ℕ, ◌<◌, Bool, true, false, ◌≢◌, List, length, get_or, ℤ, pos, Some, None, Option, sym, refl, ap, ◌∙◌, subst, inl, inr, ⊎_elim, arith}
+use Rattle.std.proofs.Common.{◌≡◌, ℕ, ◌<◌, Bool, true, false, ◌≢◌, List, length, slice_index_or, ℤ, pos, Some, None, Option, sym, refl, ap, ◌∙◌, inl, inr, ⊎_elim, arith}
 use Rattle.std.proofs.lemmas.Option.{slice_get-get_or}
 use Rattle.std.proofs.lemmas.Bool.{cases_order, both_ways, cases_Bool}
 use Rattle.std.proofs.iter.runs.Lists.{slice_get_within}
@@ -33,17 +33,17 @@ module _ (sheet : Sheet) where
   ps = precedences_of sheet
 
   abbrev carrier_at : ℕ → ℕ
-  carrier_at t = (get_or ss t no_stop).carrier
+  carrier_at t = (slice_index_or ss t no_stop).carrier
 
   abbrev place_at : ℕ → ℕ
-  place_at t = (get_or ss t no_stop).place
+  place_at t = (slice_index_or ss t no_stop).place
 
   abbrev the : ℕ → Precedence
-  the k = get_or ps k no_precedence
+  the k = slice_index_or ps k no_precedence
 
   -- stops
   visits : (t : ℕ) → t < length ss → Visits b t (carrier_at t) (place_at t)
-  visits t h = facts.visits_of sheet t (get_or ss t no_stop) (slice_get-get_or ss t no_stop h)
+  visits t h = facts.visits_of sheet t (slice_index_or ss t no_stop) (slice_get-get_or ss t no_stop h)
 
   pub visited : (t c u : ℕ) → Visits b t c u → (t < length ss) × (carrier_at t ≡ c) × (place_at t ≡ u)
   visited t c u v =
@@ -69,12 +69,7 @@ module _ (sheet : Sheet) where
       let f = facts.stands_from sheet k first second u p in
       let h = slice_get_within ps k f.0 f.1 in
       let same : the k ≡ f.0 = let x = slice_get-get_or ps k no_precedence h in let y = f.1 in (cc) in
-      record {
-        within = h;
-        its_first = ap (λ (x : Precedence). x.first) same ∙ f.2;
-        its_second = ap (λ (x : Precedence). x.second) same ∙ f.3;
-        its_place = ap (λ (x : Precedence). x.place) same ∙ f.4;
-      }
+      record { within = h; its_first = rw same f.2; its_second = rw same f.3; its_place = rw same f.4 }
 
   first_visits : (k : ℕ) → k < length ps → Visits b (the k).first_stop (the k).first (the k).place
   first_visits k h = facts.first_visits sheet k (the k) (slice_get-get_or ps k no_precedence h)
@@ -86,19 +81,17 @@ module _ (sheet : Sheet) where
   first_is : (k first second u r : ℕ) → Stands b k first second u → Visits b r first u → (the k).first_stop ≡ r
   first_is k first second u r p v =
       let f = found k first second u p in
-      let w = subst (λ x. Visits b (the k).first_stop (the k).first x) f.its_place (first_visits k f.within) in
-      facts.visits_once sheet first (the k).first_stop r u (subst (λ c. Visits b (the k).first_stop c u) f.its_first w) v
+      facts.visits_once sheet first (the k).first_stop r u (rw (f.its_first, f.its_place) at (first_visits k f.within)) v
 
   second_is : (k first second u r : ℕ) → Stands b k first second u → Visits b r second u → (the k).second_stop ≡ r
   second_is k first second u r p v =
       let f = found k first second u p in
-      let w = subst (λ x. Visits b (the k).second_stop (the k).second x) f.its_place (second_visits k f.within) in
-      facts.visits_once sheet second (the k).second_stop r u (subst (λ c. Visits b (the k).second_stop c u) f.its_second w) v
+      facts.visits_once sheet second (the k).second_stop r u (rw (f.its_second, f.its_place) at (second_visits k f.within)) v
 
   -- carriers that are not home
   pub away : (c : ℕ) → ShortOfGoal cs c → Away b c
   away c (h, other) =
-      let x = get_or cs c no_carrier in
+      let x = slice_index_or cs c no_carrier in
       let at = slice_get-get_or cs c no_carrier h in
       record {
         goal = x.goal;
@@ -110,34 +103,29 @@ module _ (sheet : Sheet) where
   short c a =
       let f = facts.goes_from sheet c a.its_goal.0 a.goal a.its_goal.1 in
       let h = slice_get_within cs c f.0 f.1 in
-      let same : get_or cs c no_carrier ≡ f.0 = let x = slice_get-get_or cs c no_carrier h in let y = f.1 in (cc) in (
+      let same : slice_index_or cs c no_carrier ≡ f.0 = let x = slice_get-get_or cs c no_carrier h in let y = f.1 in (cc) in (
         h,
         λ e.
-            let at : f.0.last_place ≡ f.0.goal = sym (ap (λ (x : Carrier). x.last_place) same) ∙ (e ∙ ap (λ (x : Carrier). x.goal) same) in
-            a.not_reached (f.0.last_stop, subst (λ v. Visits b f.0.last_stop c v) f.3 (facts.stops_at_goal sheet c f.0 f.1 at)),
+            a.not_reached (f.0.last_stop, rw f.3 at (facts.stops_at_goal sheet c f.0 f.1 (rw same at e))),
       )
 
   module _ (lanes : Lanes) where
     -- steps
     next_of : (t p : ℕ) → t < length ss → Previous lanes ss t p → Next b (carrier_at t) p (place_at p) t (place_at t)
     next_of t p h q =
-        let y = facts.previous_next sheet t p (get_or ss t no_stop) (slice_get-get_or ss t no_stop h) q in
+        let y = facts.previous_next sheet t p (slice_index_or ss t no_stop) (slice_get-get_or ss t no_stop h) q in
         let v = visited p (carrier_at t) y.0.place y.2.here in
-        subst (λ u. Next b (carrier_at t) p u t (place_at t)) (sym v.2) y.2
+        rw v.2 y.2
 
     pub previous : (c p u t v : ℕ) → Next b c p u t v → Previous lanes ss t p
     previous c p u t v on =
         let h = facts.visits_within sheet t c v on.there in
-        facts.next_previous sheet c p u t v (get_or ss t no_stop) (slice_get-get_or ss t no_stop h) on
+        facts.next_previous sheet c p u t v (slice_index_or ss t no_stop) (slice_get-get_or ss t no_stop h) on
 
     -- a stop is followed by one stop
     one_after : (c p u t v r w : ℕ) → Next b c p u t v → Next b c p u r w → t ≡ r
     one_after c p u t v r w a n =
-        ⊎_elim (λ e. e)
-        (⊎_elim
-        (λ (l : t < r). absurd (n.none_between t v a.later l a.there))
-        (λ (l : r < t). absurd (a.none_between r w n.later l n.there)))
-        (cases_order t r)
+        grind (arith, n.none_between t v a.later, a.there, a.none_between r w n.later, n.there)
 
     -- stops without a lane to them
     pub cut_off : (t p : ℕ) → t < length ss → Previous lanes ss t p → lane_between lanes ss p t ≡ None → CutOff lanes b t
@@ -147,7 +135,7 @@ module _ (sheet : Sheet) where
     cut_at t o =
         let here = visited o.s o.c o.u o.step.here in
         let there = visited t o.c o.v o.step.there in
-        let none : lane_between lanes ss o.s t ≡ None = let n = o.no_lane in let x = here.2 in let y = there.2 in (cc) in
+        let none : lane_between lanes ss o.s t ≡ None = cc (o.no_lane, here.2, there.2) in
         (o.s, there.0, previous o.c o.s o.u t o.v o.step, none)
 
     module _ (legs : List Leg) (known : Legs lanes ss (length ss) legs) where
@@ -185,7 +173,7 @@ module _ (sheet : Sheet) where
               let on = next_of t p h q in
               let off = next_of r p l.0 l.1 in
               let c = (facts.one_visit sheet p (carrier_at r) (place_at p) (carrier_at t) (place_at p) off.here on.here).0 in
-              e ∙ ap Some (one_after (carrier_at t) p (place_at p) r (place_at r) t (place_at t) (subst (λ n. Next b n p (place_at p) r (place_at r)) c off) on)
+              e ∙ ap Some (one_after (carrier_at t) p (place_at p) r (place_at r) t (place_at t) (rw c at off) on)
 
       -- lags
       leg_from : (s t : ℕ) → next_after legs s ≡ Some t → (c u : ℕ) → Visits b s c u → LegOf lanes b c s u t (place_at t) (time_to legs t)
@@ -193,19 +181,18 @@ module _ (sheet : Sheet) where
           let l = known.next s t e in
           let leg = leg_of t s l.0 l.1 in
           let o = facts.one_visit sheet s (carrier_at t) (place_at s) c u leg.next.here v in
-          subst (λ w. LegOf lanes b c s w t (place_at t) (time_to legs t)) o.1 (subst (λ n. LegOf lanes b n s (place_at s) t (place_at t) (time_to legs t)) o.0 leg)
+          rw (o.0, o.1) at leg
 
       module _ (gap : Gaps) where
         pub is_lag : (s t : ℕ) (w : ℤ) → Between gap ss legs ps s t w → Lag lanes gap b s t w
         is_lag s t w l = ⊎_elim
-            (λ v. subst (Lag lanes gap b s t) (sym v.weighs) (travel (leg_of t s v.within v.step)))
+            (λ v. rw v.weighs (travel (leg_of t s v.within v.step)))
             (λ v.
             let k = v.0 in
             let wt = v.2 in
             let visit = first_visits k v.1 in
             let leg = leg_from (the k).first_stop s wt.from_next (the k).first (the k).place visit in
-            let second = subst (λ n. Visits b n (the k).second (the k).place) (sym wt.to_second) (second_visits k v.1) in
-            subst (Lag lanes gap b s t) (sym wt.weighs) (wait k (stands k v.1) leg second))
+            rw (wt.weighs, wt.to_second) (wait k (stands k v.1) leg (second_visits k v.1)))
             l
 
         pub lag_is : (s t : ℕ) (w : ℤ) → Lag lanes gap b s t w → Between gap ss legs ps s t w
@@ -233,16 +220,16 @@ module _ (sheet : Sheet) where
         first_of r c h small e =
             let m = marks.meant r c small e in
             let k = m.0 in
-            let v = subst (λ n. Visits b n (the k).first (the k).place) m.2 (first_visits k m.1) in
+            let v = rw m.2 at (first_visits k m.1) in
             let o = facts.one_visit sheet r (the k).first (the k).place (carrier_at r) (place_at r) v (visits r h) in
-            (k, subst (λ u. Stands b k (carrier_at r) c u) o.1 (subst (λ n. Stands b k n c (the k).place) o.0 (subst (λ n. Stands b k (the k).first n (the k).place) m.3 (stands k m.1))))
+            (k, rw (m.3, o.0, o.1) at (stands k m.1))
 
         leads_of : (k first second u r : ℕ) → Stands b k first second u → Visits b r first u → leads_at leads r second ≡ true
         leads_of k first second u r p v =
             let f = found k first second u p in
             let i = first_is k first second u r p v in
             let m = marks.marked k f.within in
-            subst (λ n. leads_at leads n second ≡ true) i (subst (λ n. leads_at leads (the k).first_stop n ≡ true) f.its_second m)
+            rw (i, f.its_second) at m
 
         -- meetings that are not decided
         pub undecided : (s t : ℕ) → OpenMeeting ss leads s t → UndecidedAt b s t
@@ -251,7 +238,7 @@ module _ (sheet : Sheet) where
             let l = o.later in
             let s_in : s < length ss = omega arith in
             let here = visits s s_in in
-            let there = subst (λ u. Visits b t (carrier_at t) u) o.meet.0 (visits t h) in
+            let there = rw o.meet.0 at (visits t h) in
             record {
               c = carrier_at s;
               e = carrier_at t;
@@ -274,44 +261,41 @@ module _ (sheet : Sheet) where
             let carrier_t = there.1 in
             let place_s = here.2 in
             let place_t = there.2 in
-            let P : ℕ → ℕ → ℕ → ℕ → Type 0 = λ k x y u. Stands b k x y u in
             record {
               later = o.later;
               within = there.0;
               meet = (place_t ∙ sym place_s, λ e. o.other (sym carrier_s ∙ (sym e ∙ carrier_t)));
               not_first = ⊎_elim
                   (λ e. let f = first_of s (carrier_at t) here.0 (few t there.0) e in
-                  absurd (o.nobody_first (f.0, inl (subst (λ u. P f.0 o.c o.e u) place_s (subst (λ n. P f.0 o.c n (place_at s)) carrier_t (subst (λ n. P f.0 n (carrier_at t) (place_at s)) carrier_s f.1))))))
+                  absurd (o.nobody_first (f.0, inl (cc f.1))))
                   (λ e. e)
                   (cases_Bool (leads_at leads s (carrier_at t)));
               not_second = ⊎_elim
                   (λ e. let f = first_of t (carrier_at s) there.0 (few s here.0) e in
-                  absurd (o.nobody_first (f.0, inr (subst (λ u. P f.0 o.e o.c u) place_t (subst (λ n. P f.0 o.e n (place_at t)) carrier_s (subst (λ n. P f.0 n (carrier_at s) (place_at t)) carrier_t f.1))))))
+                  absurd (o.nobody_first (f.0, inr (cc f.1))))
                   (λ e. e)
                   (cases_Bool (leads_at leads t (carrier_at s)));
             }
 
         -- every meeting decided
-        pub decided : ((s t : ℕ) → OpenMeeting ss leads s t → ⊥) → (c e s r u : ℕ) → c ≢ e → Visits b s c u → Visits b r e u → Decided b c e u
+        pub decided : ((s t : ℕ) → ¬ OpenMeeting ss leads s t) → (c e s r u : ℕ) → c ≢ e → Visits b s c u → Visits b r e u → Decided b c e u
         decided none c e s r u other here there =
             let at_s = visited s c u here in
             let at_r = visited r e u there in
             ⊎_elim
-            (λ t. let f = first_of s e at_s.0 (subst (λ n. n < 64) at_r.1 (few r at_r.0)) t in
-            (f.0, inl (subst (λ w. Stands b f.0 c e w) at_s.2 (subst (λ n. Stands b f.0 n e (place_at s)) at_s.1 f.1))))
+            (λ t. let f = first_of s e at_s.0 (rw at_r.1 at (few r at_r.0)) t in (f.0, inl (cc (f.1, at_s.1, at_s.2))))
             (λ no_first. ⊎_elim
-            (λ t. let f = first_of r c at_r.0 (subst (λ n. n < 64) at_s.1 (few s at_s.0)) t in
-            (f.0, inr (subst (λ w. Stands b f.0 e c w) at_r.2 (subst (λ n. Stands b f.0 n c (place_at r)) at_r.1 f.1))))
+            (λ t. let f = first_of r c at_r.0 (rw at_s.1 at (few s at_s.0)) t in (f.0, inr (cc (f.1, at_r.1, at_r.2))))
             (λ no_second. absurd (clash s r at_s at_r no_first no_second))
             (cases_Bool (leads_at leads r c)))
             (cases_Bool (leads_at leads s e))
           where
             clash : (s r : ℕ) → (s < length ss) × (carrier_at s ≡ c) × (place_at s ≡ u) → (r < length ss) × (carrier_at r ≡ e) × (place_at r ≡ u) → leads_at leads s e ≡ false → leads_at leads r c ≡ false → ⊥
             clash s r at_s at_r no_first no_second =
-                let f : leads_at leads s (carrier_at r) ≡ false = ap (λ n. leads_at leads s n) at_r.1 ∙ no_first in
-                let g : leads_at leads r (carrier_at s) ≡ false = ap (λ n. leads_at leads r n) at_s.1 ∙ no_second in
-                let place : place_at r ≡ place_at s = at_r.2 ∙ sym at_s.2 in
-                let apart : carrier_at r ≡ carrier_at s → ⊥ = λ q. other (sym at_s.1 ∙ (sym q ∙ at_r.1)) in
+                let f : leads_at leads s (carrier_at r) ≡ false = rw at_r.1 no_first in
+                let g : leads_at leads r (carrier_at s) ≡ false = rw at_s.1 no_second in
+                let place : place_at r ≡ place_at s = cc (at_r.2, at_s.2) in
+                let apart : carrier_at r ≢ carrier_at s = λ q. other (sym at_s.1 ∙ (sym q ∙ at_r.1)) in
                 ⊎_elim
                 (λ q. apart (ap carrier_at (sym q)))
                 (⊎_elim
@@ -326,16 +310,15 @@ module _ (sheet : Sheet) where
             let e = (the k).first in
             let c = (the k).second in
             let v = (the k).place in
-            let at_t : Visits b t e v = subst (λ n. Visits b n e v) o.from_first (first_visits k h) in
+            let at_t : Visits b t e v = rw o.from_first at (first_visits k h) in
             let at_q = second_visits k h in
             let q_in = visited q c v at_q in
             let coming = leg_of q s q_in.0 o.from_second in
-            let s_leg : LegOf lanes b c s (place_at s) q v (time_to legs q) =
-            subst (λ x. LegOf lanes b c s (place_at s) q x (time_to legs q)) q_in.2 (subst (λ n. LegOf lanes b n s (place_at s) q (place_at q) (time_to legs q)) q_in.1 coming) in
+            let s_leg : LegOf lanes b c s (place_at s) q v (time_to legs q) = rw (q_in.1, q_in.2) at coming in
             let going = leg_from t o.target o.goes e v at_t in
-            let t_leg : LegOf lanes b e t v o.target (place_at s) (time_to legs o.target) = subst (λ x. LegOf lanes b e t v o.target x (time_to legs o.target)) o.arrives going in
+            let t_leg : LegOf lanes b e t v o.target (place_at s) (time_to legs o.target) = rw o.arrives at going in
             let s_in = visited s c (place_at s) s_leg.next.here in
-            let e_few : e < 64 = let t_in = visited t e v at_t in subst (λ n. n < 64) t_in.1 (few t t_in.0) in
+            let e_few : e < 64 = let t_in = visited t e v at_t in rw t_in.1 at (few t t_in.0) in
             let f = first_of s e s_in.0 e_few o.first_there in
             record {
               c = c;
@@ -344,7 +327,7 @@ module _ (sheet : Sheet) where
               v = v;
               s_goes = (q, time_to legs q, s_leg);
               t_goes = (o.target, time_to legs o.target, t_leg);
-              first_at_u = (f.0, subst (λ n. Stands b f.0 n e (place_at s)) s_in.1 f.1);
+              first_at_u = (f.0, cc (f.1, s_in.1));
               first_at_v = (k, stands k h);
             }
 
@@ -364,10 +347,10 @@ module _ (sheet : Sheet) where
               f.within,
               record {
                 from_first = i;
-                from_second = subst (λ n. (get_or ss n no_stop).previous ≡ Some s) (sym j) s_in.step;
+                from_second = rw j s_in.step;
                 target = o.t_goes.0;
                 goes = next_in o.t_goes.0 t t_in.within t_in.step;
-                arrives = t_in.to_place ∙ sym s_in.from_place;
-                first_there = subst (λ n. leads_at leads s n ≡ true) (sym f.its_first) m;
+                arrives = cc (t_in.to_place, s_in.from_place);
+                first_there = rw f.its_first m;
               },
             )

@@ -1,6 +1,5 @@
 -- From the lags that were gathered to what is written on the pages.
-use Rattle.std.proofs.Common.{◌≡◌, ℕ, ◌+◌, ◌-◌, ◌*◌, ◌^◌, ◌<◌, ◌≤◌, max, List, ◌++◌, length, get_or, take, drop, ℤ, pos, negsuc, ◌-ℤ◌, ◌≤ℤ◌, sym, ap, ◌∙◌, subst, ⊎_elim, arith}
-use native.Mathlib.Nat.{le-max_left, le-max_right}
+use Rattle.std.proofs.Common.{◌≡◌, ℕ, ◌-◌, ◌*◌, ◌^◌, ◌<◌, ◌≤◌, max, List, ◌++◌, length, slice_index_or, slice_index, take, drop, ℤ, pos, ◌≤ℤ◌, All, sym, ap, ◌∙◌, subst, inl, inr, arith}
 use Rattle.std.proofs.lemmas.List.{length-take-le, take-append-drop}
 use Rattle.std.proofs.lemmas.List.Elements.{Contains-get_or}
 use Rattle.std.proofs.lemmas.Int.{ints}
@@ -8,76 +7,48 @@ use Rattle.sheet.specs.declared.records.Precedence.{Precedence}
 use Rattle.sheet.specs.declared.records.Stop.{Stop}
 use Rattle.sheet.specs.Records.{no_precedence, no_stop}
 use Rattle.lags.specs.declared.Lag.{Lag}
-use Rattle.lags.specs.Solved.{Listed, Allowed, Fit, Under, Earliest, Looped}
-use Rattle.lags.proofs.Ways.{ring_over, solution_over}
+use Rattle.lags.specs.Solved.{Listed, Allowed, Fit, Earliest, Looped}
+use Rattle.lags.proofs.Ways.{least_over, ring_over}
 use Rattle.judge.specs.Settling.{Pages, TimesWritten, RingWritten}
 use Rattle.judge.specs.declared.legs.Leg.{Leg}
 use Rattle.judge.specs.Legs.{time_to}
 use Rattle.judge.specs.Waits.{Lists, LagOf, Ready, Between}
 
--- the weight of waiting lies within the limits
-weight_low : (w : ℤ) (g t : ℕ) → w ≡ (pos (g + 1) -ℤ pos t) → t ≤ 36000 → negsuc 99999 ≤ℤ w
-weight_low w g t e h = omega (arith, ints)
-
-weight_most : (w : ℤ) (g t m : ℕ) → w ≡ (pos (g + 1) -ℤ pos t) → 1 ≤ t → g ≤ m → w ≤ℤ pos m
-weight_most w g t m e h k = omega (arith, ints)
-
-module _ (gap : ℕ → ℕ → ℕ → ℕ) (largest : ℕ) (small : largest ≤ 100000) (bounded : (from to time : ℕ) → 1 ≤ time → time ≤ 36000 → gap from to time ≤ largest)
-    (stops : List Stop) (legs : List Leg) (ps : List Precedence)
-    (ready : Ready stops ps legs) (items : List Lag) (gathered : Lists (LagOf gap stops legs ps (length stops) (length ps)) items) (lags : List Lag) (same : lags ≡ items) where
+module _ {gap : ℕ → ℕ → ℕ → ℕ} {largest : ℕ} (small : largest ≤ 100000) (bounded : (from to time : ℕ) → 1 ≤ time → time ≤ 36000 → gap from to time ≤ largest)
+    {stops : List Stop} {legs : List Leg} {ps : List Precedence}
+    (ready : Ready stops ps legs) {items : List Lag} (gathered : Lists (LagOf gap stops legs ps (length stops) (length ps)) items) {lags : List Lag} (same : lags ≡ items) where
   abbrev IsLag : Lag → Type 0
   IsLag g = LagOf gap stops legs ps (length stops) (length ps) g
 
   listed : Lists IsLag lags
   listed = rw same gathered
 
-  is_lag : (k : ℕ) (d : Lag) → k < length lags → IsLag (get_or lags k d)
-  is_lag k d h = (listed (get_or lags k d)).0 (Contains-get_or lags k d h)
+  -- what holds of every such lag, holds of all that were gathered
+  all : {P : Lag → Type 0} → ((g : Lag) → IsLag g → P g) → All P lags
+  all each k d h = each (slice_index_or lags k d) ((listed (slice_index_or lags k d)).0 (Contains-get_or lags k d h))
 
   allowed_one : (g : Lag) → IsLag g → Allowed (length stops) g
-  allowed_one g l = ⊎_elim
-      (λ t.
-      let before = ready.consistent.linked g.to g.from t.within t.step in
-      let time = ready.stepped g.to g.from t.within t.step in
-      let within = t.within in
-      let weighs = t.weighs in
-      ((omega arith, within), (omega (arith, ints), omega (arith, ints))))
-      (λ w.
-      let k = w.0 in
-      let wait = w.2 in
-      let same = ready.one_each in
+  allowed_one g (inl t) = grind (arith, ints, ready.consistent.linked g.to g.from t.within t.step, ready.stepped g.to g.from t.within t.step, t.within, t.weighs)
+  allowed_one g (inr (k, within, wait)) =
       let next = ready.inside _ _ wait.from_next in
       let time = ready.timely _ _ wait.from_next in
-      let here = ready.consistent.lawful k w.1 in
-      let most = bounded (get_or ps k no_precedence).place (get_or stops g.from no_stop).place (time_to legs g.from) time.0 time.1 in (
-        (omega arith, omega (arith, wait.to_second, here.3)),
-        (weight_low g.weight _ _ wait.weighs time.1, weight_most g.weight _ _ 100000 wait.weighs time.0 (omega (arith, most))),
-      ))
-      l
+      let most = bounded (slice_index_or ps k no_precedence).place (slice_index_or stops g.from no_stop).place (time_to legs g.from) time.0 time.1 in
+      grind (arith, ints, ready.one_each, ready.consistent.lawful k within, wait.to_second, wait.weighs)
 
   pub fit : (n room : ℕ) → n ≡ length stops → length lags ≤ 3072 → length stops ≤ room → Fit lags n room
   fit n room e short wide = rw e (record {
     few = ready.consistent.few;
     short = short;
-    allowed = λ k d h. allowed_one (get_or lags k d) (is_lag k d h);
+    allowed = all allowed_one;
     wide = wide;
   })
 
   under_one : (g : Lag) → IsLag g → g.weight ≤ℤ pos (max 36000 largest)
-  under_one g l =
-      let a = le-max_left 36000 largest in
-      let b = le-max_right 36000 largest in
-      ⊎_elim
-      (λ t. let time = ready.stepped g.to g.from t.within t.step in let weighs = t.weighs in omega (arith, ints))
-      (λ w.
-      let wait = w.2 in
+  under_one g (inl t) = let time = ready.stepped g.to g.from t.within t.step in omega (arith, ints, t.weighs)
+  under_one g (inr (k, within, wait)) =
       let time = ready.timely _ _ wait.from_next in
-      let most = bounded (get_or ps w.0 no_precedence).place (get_or stops g.from no_stop).place (time_to legs g.from) time.0 time.1 in
-      weight_most g.weight _ _ (max 36000 largest) wait.weighs time.0 (omega (arith, most)))
-      l
-
-  under : Under lags (max 36000 largest)
-  under = λ k d h. under_one (get_or lags k d) (is_lag k d h)
+      let most = bounded (slice_index_or ps k no_precedence).place (slice_index_or stops g.from no_stop).place (time_to legs g.from) time.0 time.1 in
+      omega (arith, ints, wait.weighs)
 
   -- the listed lags are those of the tables
   from_listed : (s t : ℕ) (w : ℤ) → Listed lags s t w → Between gap stops legs ps s t w
@@ -91,18 +62,15 @@ module _ (gap : ℕ → ℕ → ℕ → ℕ) (largest : ℕ) (small : largest �
     times = α;
     one_each = n;
     written = w;
-    least = (
-      solution_over (Between gap stops legs ps) (Listed lags) to_listed (λ s. get_or α s 0) e.least.0,
-      λ β k v. e.least.1 β (solution_over (Listed lags) (Between gap stops legs ps) from_listed β k) v,
-    );
-    low = λ s. subst (λ m. get_or α s 0 ≤ (m - 1) * max 36000 largest) n (e.ceiling (max 36000 largest) under s);
+    least = least_over (Between gap stops legs ps) (Listed lags) to_listed from_listed (λ s. slice_index α s) e.least;
+    low = λ s. subst (λ m. slice_index α s ≤ (m - 1) * max 36000 largest) n (e.ceiling (max 36000 largest) (all under_one) s);
     ring_stands = r;
   }
 
   -- no arrival is too large for the timetable
-  pub times_fit : (α : List ℕ) → Earliest lags α → length α ≡ length stops → (i : ℕ) → get_or α i 0 < 2 ^ 32
+  pub times_fit : (α : List ℕ) → Earliest lags α → length α ≡ length stops → (i : ℕ) → slice_index α i < 2 ^ 32
   times_fit α e n i =
-      let c = e.ceiling 100000 (λ k d h. (allowed_one (get_or lags k d) (is_lag k d h)).1.1) i in
+      let c = e.ceiling 100000 (all (λ g l. (allowed_one g l).1.1)) i in
       let few = ready.consistent.few in
       omega (arith, c)
 

@@ -29,17 +29,17 @@ pub data Finding : Type 0 where
 
 module _ (y : Setting) (b : Book) where
   abbrev pub AllHome : Type 0
-  AllHome = (c : ℕ) → Away b c → ⊥
+  AllHome = (c : ℕ) → ¬ Away b c
 
   abbrev pub AllOnLanes : Type 0
-  AllOnLanes = (t : ℕ) → CutOff y.lanes b t → ⊥
+  AllOnLanes = (t : ℕ) → ¬ CutOff y.lanes b t
 
   abbrev pub NoneOpposed : Type 0
-  NoneOpposed = (s t : ℕ) → Opposed y.lanes b s t → ⊥
+  NoneOpposed = (s t : ℕ) → ¬ Opposed y.lanes b s t
 
   -- no timed plan keeps every standing precedence and is free of conflict
   abbrev pub Impossible : Type 0
-  Impossible = Possible y.lanes y.gap b → ⊥
+  Impossible = ¬ Possible y.lanes y.gap b
 
   -- one arrival for each stop: the earliest good plan, and none above the ceiling
   pub record EarliestTimes (times : List ℕ) : Type 0 where

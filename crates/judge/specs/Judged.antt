@@ -1,5 +1,5 @@
 -- What a judging answers, in the words of the subject.
-use Rattle.std.specs.Prelude.{◌≡◌, ℕ, ◌-◌, ◌*◌, ◌<◌, ◌≤◌, max, true, ◌≢◌, List, length, is_ok, None, Ok, Err, Result, slice_index}
+use Rattle.std.specs.Prelude.{◌≡◌, ℕ, ◌-◌, ◌*◌, ◌<◌, ◌≤◌, max, ◌≢◌, ◌↔◌, List, length, IsOk, None, Ok, Err, Result, slice_index}
 use Rattle.lags.specs.Ways.{Ring as RingOf}
 use Rattle.sheet.specs.Book.{Book, GoalOf, OnRoute, Visits, Decided, Next}
 use Rattle.plan.specs.Lags.{Lag}
@@ -32,7 +32,7 @@ judging_of lanes gap largest timetable ring timetable' ring' r = record {
 pub record Away (b : Book) (c : ℕ) : Type 0 where
   pub goal : ℕ
   pub its_goal : GoalOf b c goal
-  pub not_reached : OnRoute b c goal → ⊥
+  pub not_reached : ¬ OnRoute b c goal
 
 -- no lane leads to the stop from the one before it
 pub record CutOff (lanes : Lanes) (b : Book) (t : ℕ) : Type 0 where
@@ -52,7 +52,7 @@ pub record UndecidedAt (b : Book) (s t : ℕ) : Type 0 where
   pub here : Visits b s c u
   pub there : Visits b t e u
   pub later : s < t
-  pub nobody_first : Decided b c e u → ⊥
+  pub nobody_first : ¬ Decided b c e u
 
 module _ (j : Judging) (b : Book) where
   -- both pages have a number for each stop
@@ -60,10 +60,10 @@ module _ (j : Judging) (b : Book) where
   Long = (length b.stops ≤ length j.pages.timetable) × (length b.stops ≤ length j.pages.ring)
 
   abbrev pub AllHome : Type 0
-  AllHome = (c : ℕ) → Away b c → ⊥
+  AllHome = (c : ℕ) → ¬ Away b c
 
   abbrev pub AllOnLanes : Type 0
-  AllOnLanes = (t : ℕ) → CutOff j.lanes b t → ⊥
+  AllOnLanes = (t : ℕ) → ¬ CutOff j.lanes b t
 
   -- the first numbers of the timetable are the earliest arrivals, and everything else on the pages stands
   pub record Passes (n : ℕ) : Type 0 where
@@ -85,12 +85,12 @@ module _ (j : Judging) (b : Book) where
 
   -- the checks in their order, each with the lowest numbers to which it applies
   abbrev pub Answers : Result ℕ JudgeRefusal → Type 0
-  Answers (Err PageTooShort) = (Long → ⊥) × Untouched j.pages
+  Answers (Err PageTooShort) = ¬ Long × Untouched j.pages
   Answers (Err (NotAtGoal c)) = Long × Lowest (Away b) c × Untouched j.pages
   Answers (Err (NoLane t)) = Long × AllHome × Lowest (CutOff j.lanes b) t × Untouched j.pages
   Answers (Err (Undecided s t)) = Long × AllHome × AllOnLanes × LowestPair (UndecidedAt b) s t × Untouched j.pages
-  Answers (Err (HeadOn s t)) = Long × Complete j.lanes b × LowestPair (Opposed j.lanes b) s t × (Possible j.lanes j.gap b → ⊥) × Untouched j.pages
-  Answers (Err (Ring k)) = Long × Complete j.lanes b × ((s t : ℕ) → Opposed j.lanes b s t → ⊥) × (Possible j.lanes j.gap b → ⊥) × WaitsInARing k
+  Answers (Err (HeadOn s t)) = Long × Complete j.lanes b × LowestPair (Opposed j.lanes b) s t × ¬ Possible j.lanes j.gap b × Untouched j.pages
+  Answers (Err (Ring k)) = Long × Complete j.lanes b × ((s t : ℕ) → ¬ Opposed j.lanes b s t) × ¬ Possible j.lanes j.gap b × WaitsInARing k
   Answers (Ok n) = Long × Complete j.lanes b × Possible j.lanes j.gap b × Passes n
 
   abbrev pub Judged : Type 0
@@ -99,4 +99,4 @@ module _ (j : Judging) (b : Book) where
   -- with pages long enough, a complete sheet passes exactly when some timed plan keeps every standing precedence and is
   -- free of conflict
   abbrev pub PassesExactly : Type 0
-  PassesExactly = Long → Complete j.lanes b → (is_ok j.answer ≡ true → Possible j.lanes j.gap b) × (Possible j.lanes j.gap b → is_ok j.answer ≡ true)
+  PassesExactly = Long → Complete j.lanes b → (IsOk j.answer ↔ Possible j.lanes j.gap b)

@@ -12,3 +12,4 @@ pub mod Histories
 pub mod Findings
 pub mod Shown
 pub mod FindingHistories
+pub mod JudgedFully

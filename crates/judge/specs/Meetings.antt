@@ -49,5 +49,5 @@ module _ (stops : List Stop) (legs : List Leg) (leads : List Bool) (precedences 
 
   -- the lowest pair that is set head on at one of the first n precedences, if any
   abbrev pub LowestOpposed : ℕ → Option (ℕ × ℕ) → Type 0
-  LowestOpposed n None = (s t : ℕ) → OpposedBelow n s t → ⊥
+  LowestOpposed n None = (s t : ℕ) → ¬ OpposedBelow n s t
   LowestOpposed n (Some p) = (p.0 < 1024) × (p.1 < 1024) × OpposedBelow n p.0 p.1 × ((s t : ℕ) → OpposedBelow n s t → NotAbove p s t)

@@ -18,7 +18,7 @@ Untouched p = (p.timetable_after ≡ p.timetable) × (p.ring_after ≡ p.ring)
 module _ (stops : List Stop) (legs : List Leg) (precedences : List Precedence) (leads : List Bool) where
   -- every meeting is decided
   abbrev pub AllDecided : Type 0
-  AllDecided = (s t : ℕ) → OpenMeeting stops leads s t → ⊥
+  AllDecided = (s t : ℕ) → ¬ OpenMeeting stops leads s t
 
   -- no two stops are set head on
   abbrev pub NoneOpposed : Type 0

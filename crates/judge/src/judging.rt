@@ -1,24 +1,20 @@
 // The judging of a sheet.
 ghost use Rattle.std.specs.Prelude.{◌≡◌, ℕ, ◌^◌, ◌<◌, ◌≤◌, max, ◌++◌, length, drop, MatchResult, slice_index};
+ghost use Rattle.judge.specs.Judged.{judging_of};
+ghost use Rattle.judge.specs.JudgedFully.{JudgedFully};
 ghost use Rattle.judge.specs.Routing.{PrecedencesClear, PrecedencesRefused, Routed};
-ghost use Rattle.judge.specs.FindingHistories.{GoesOn};
-ghost use Rattle.judge.specs.Histories.{Event, Lawful};
-ghost use Rattle.judge.specs.Histories.Event.{judged};
-ghost use Rattle.judge.specs.Judged.{Judged, PassesExactly, judging_of};
-ghost use Rattle.judge.specs.Shown.{Concluded};
-ghost use Rattle.sheet.specs.Histories.{History};
-ghost use Rattle.sheet.specs.Histories.History.{◌▹◌};
-ghost use Rattle.sheet.specs.Sheets.{sheet_book};
-ghost use Rattle.judge.specs.Settling.{Settles, Within};
+ghost use Rattle.judge.specs.Settling.{Settles};
 ghost use Rattle.judge.specs.Waits.{Between};
+ghost use Rattle.sheet.specs.Sheets.{sheet_book};
 
 use crate::legs::{Leg, NO_LEG, check_goals, find_legs};
 use crate::marks::Marks;
 use crate::refusal::JudgeRefusal;
 use crate::routes::Routes;
 use crate::tables::Tables;
-use arrayvec::ArrayVec;
+use crate::waits::Lags;
 use lags::{Unsolved, solve};
+use sheet::limits::MOST_STOPS;
 use sheet::sheets::Sheet;
 use yard::{FollowingRule, Yard};
 
@@ -46,9 +42,9 @@ fn settle<R: FollowingRule>(
     requires ring { length tables.routes.stops.now ≤ length ring.old }
     ensures { Settles (Between (R.FollowingRule.gaps rule.now) tables.entry.routes.stops.now tables.entry.legs.now tables.entry.routes.precedences.now) (length tables.entry.routes.stops.now) (max 36000 R.FollowingRule.LARGEST_GAP) (record { timetable = timetable.old; ring = ring.old; timetable_after = timetable.new; ring_after = ring.new }) result }
 {
-    let mut lags = ArrayVec::new();
+    let mut lags = Lags::new();
     tables.gather_lags(rule, &mut lags);
-    let mut arrivals = [0; 1024];
+    let mut arrivals = [0; MOST_STOPS];
     let arrivals = &mut arrivals[0..tables.legs.len()];
     match solve(&lags, arrivals, ring) {
         Ok(()) => {
@@ -101,12 +97,10 @@ pub fn judge<Y: Yard, R: FollowingRule>(
     timetable: &mut [u32],
     ring: &mut [u16],
 ) -> Result<u16, JudgeRefusal>
-    ensures judges { Judged (judging_of (Y.Yard.lanes yard.now) (R.FollowingRule.gaps rule.now) R.FollowingRule.LARGEST_GAP timetable.old ring.old timetable.new ring.new result) (sheet_book sheet.now) }
-    ensures exactly { PassesExactly (judging_of (Y.Yard.lanes yard.now) (R.FollowingRule.gaps rule.now) R.FollowingRule.LARGEST_GAP timetable.old ring.old timetable.new ring.new result) (sheet_book sheet.now) }
-    ensures goes_on { (h : History Event) → Lawful h (sheet_book sheet.now) → Lawful (h ▹ judged (judging_of (Y.Yard.lanes yard.now) (R.FollowingRule.gaps rule.now) R.FollowingRule.LARGEST_GAP timetable.old ring.old timetable.new ring.new result)) (sheet_book sheet.now) }
-    ensures concludes { Concluded (judging_of (Y.Yard.lanes yard.now) (R.FollowingRule.gaps rule.now) R.FollowingRule.LARGEST_GAP timetable.old ring.old timetable.new ring.new result) (sheet_book sheet.now) }
-    ensures continues { GoesOn (judging_of (Y.Yard.lanes yard.now) (R.FollowingRule.gaps rule.now) R.FollowingRule.LARGEST_GAP timetable.old ring.old timetable.new ring.new result) (sheet_book sheet.now) }
-    ensures within { Within (length timetable.old) (length ring.old) result }
+    ensures { JudgedFully
+        (judging_of (Y.Yard.lanes yard.now) (R.FollowingRule.gaps rule.now) R.FollowingRule.LARGEST_GAP
+        timetable.old ring.old timetable.new ring.new result)
+        (sheet_book sheet.now) }
 {
     let stops = sheet.stops();
     if timetable.len() < stops.len() || ring.len() < stops.len() {
@@ -117,7 +111,7 @@ pub fn judge<Y: Yard, R: FollowingRule>(
         stops,
         precedences: sheet.precedences(),
     };
-    let mut legs = [NO_LEG; 1024];
+    let mut legs = [NO_LEG; MOST_STOPS];
     judge_routes(
         yard,
         rule,

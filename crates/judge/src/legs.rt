@@ -28,7 +28,7 @@ pub(crate) const NO_LEG: Leg = Leg {
 // number of a carrier or a stop is small, and the check proves that nothing is lost.
 pub(crate) fn check_goals(carriers: &[Carrier]) -> Result<(), JudgeRefusal>
     requires { length carriers.now ≤ 64 }
-    ensures { MatchResult result (λ _. (c : ℕ) → ShortOfGoal carriers.now c → ⊥) (λ e. (c : ℕ) × (e ≡ NotAtGoal c) × Lowest (ShortOfGoal carriers.now) c) }
+    ensures { MatchResult result (λ _. (c : ℕ) → ¬ ShortOfGoal carriers.now c) (λ e. (c : ℕ) × (e ≡ NotAtGoal c) × Lowest (ShortOfGoal carriers.now) c) }
 {
     match carriers.iter().position(|carrier| !carrier.is_at_goal()) {
         Some(c) => Err(JudgeRefusal::NotAtGoal { carrier: c as u16 }),
@@ -38,6 +38,7 @@ pub(crate) fn check_goals(carriers: &[Carrier]) -> Result<(), JudgeRefusal>
 
 // Finds the leg of each stop, of which there are as many as `legs` has room for; refuses the lowest stop that no lane
 // leads to from the one before it.
+// By `enumerate`: a stop's number is an index here too, so that counting by `(0u16..)` would only have it converted there.
 pub(crate) fn find_legs<Y: Yard>(
     yard: &Y,
     routes: Routes,

@@ -3,11 +3,15 @@ ghost use Rattle.std.specs.Prelude.{◌≡◌, ◌<◌, false, length, replicate
 ghost use Rattle.judge.specs.Meetings.{Leads, leads_at};
 
 use crate::routes::Routes;
+use sheet::limits::{MOST_CARRIERS, MOST_STOPS};
+
+// A mark for each stop and each carrier.
+const MARKS: usize = MOST_STOPS * MOST_CARRIERS;
 
 // For each stop and each other carrier a mark, whether a precedence has the stop's own carrier go first there.
 #[derive(Drop)]
 pub(crate) struct Marks {
-    pub(crate) first: [bool; 65536],
+    pub(crate) first: [bool; MARKS],
 }
 
 impl Marks {
@@ -17,7 +21,7 @@ impl Marks {
         ensures { result.first ≡ replicate 65536 false }
     {
         Marks {
-            first: [false; 65536],
+            first: [false; MARKS],
         }
     }
 
@@ -27,7 +31,7 @@ impl Marks {
         ensures { Leads routes.entry.precedences.now (length routes.entry.precedences.now) self.new.first }
     {
         for precedence in routes.precedences {
-            let row = usize::from(precedence.first_stop) * 64;
+            let row = usize::from(precedence.first_stop) * MOST_CARRIERS;
             self.first[row + usize::from(precedence.second)] = true;
         }
     }
@@ -38,6 +42,6 @@ impl Marks {
         requires carrier { other < 64 }
         ensures { result ≡ leads_at self.now.first stop other }
     {
-        self.first[stop * 64 + usize::from(other)]
+        self.first[stop * MOST_CARRIERS + usize::from(other)]
     }
 }

@@ -10,7 +10,11 @@ use crate::marks::Marks;
 use crate::refusal::JudgeRefusal;
 use crate::routes::Routes;
 use crate::tables::Tables;
+use sheet::limits::MOST_STOPS;
 use sheet::records::{Precedence, Stop};
+
+// By this number the stops are linked: as many as there are places, so that no two places of a yard have one remainder.
+const REMAINDERS: usize = 4096;
 
 // Links each stop to the lowest later one whose place has the same remainder by 4,096, and so to all later ones at its
 // place, one by one. It goes by number, since the links are numbers.
@@ -19,9 +23,9 @@ fn link_places(stops: &[Stop], later: &mut [Option<u16>])
     requires one_each { length later.old ≡ length stops.now }
     ensures { Chained stops.now later.new }
 {
-    let mut latest = [None; 4096];
+    let mut latest = [None; REMAINDERS];
     for s in (0..stops.len()).rev() {
-        let part = usize::from(stops[s].place) % 4096;
+        let part = usize::from(stops[s].place) % REMAINDERS;
         later[s] = latest[part];
         latest[part] = Some(s as u16);
     }
@@ -40,7 +44,7 @@ impl ByPlace<'_> {
     // The lowest stop above `s`, of another carrier, at the same place, without a precedence for the two.
     fn undecided_with(self, marks: &Marks, s: usize) -> Option<usize>
         requires { s < length self.routes.stops.now }
-        ensures { MatchOption result ((t : ℕ) → OpenMeeting self.entry.routes.stops.now marks.now.first s t → ⊥) (λ t. Lowest (OpenMeeting self.entry.routes.stops.now marks.now.first s) t) }
+        ensures { MatchOption result ((t : ℕ) → ¬ OpenMeeting self.entry.routes.stops.now marks.now.first s t) (λ t. Lowest (OpenMeeting self.entry.routes.stops.now marks.now.first s) t) }
     {
         let later = self.later;
         let mut next = later[s];
@@ -57,7 +61,7 @@ impl ByPlace<'_> {
     // Goes along the links, and refuses the lowest stop that meets a later one without a precedence, with the lowest such
     // later one. It goes by number, since both numbers are in the refusal.
     fn check_meetings(self, marks: &Marks) -> Result<(), JudgeRefusal>
-        ensures { MatchResult result (λ _. (s t : ℕ) → OpenMeeting self.entry.routes.stops.now marks.now.first s t → ⊥) (λ e. (s : ℕ) × (t : ℕ) × (e ≡ Undecided s t) × LowestPair (OpenMeeting self.entry.routes.stops.now marks.now.first) s t) }
+        ensures { MatchResult result (λ _. (s t : ℕ) → ¬ OpenMeeting self.entry.routes.stops.now marks.now.first s t) (λ e. (s : ℕ) × (t : ℕ) × (e ≡ Undecided s t) × LowestPair (OpenMeeting self.entry.routes.stops.now marks.now.first) s t) }
     {
         for s in 0..self.later.len() {
             if let Some(t) = self.undecided_with(marks, s) {
@@ -87,9 +91,9 @@ impl Routes<'_> {
     // Refuses the lowest stop that meets a later one without a precedence, with the lowest such later one. The links lie
     // here and `ByPlace` borrows them; arrays, since judging takes no memory.
     pub(crate) fn check_meetings(self, marks: &Marks) -> Result<(), JudgeRefusal>
-        ensures { MatchResult result (λ _. (s t : ℕ) → OpenMeeting self.entry.stops.now marks.now.first s t → ⊥) (λ e. (s : ℕ) × (t : ℕ) × (e ≡ Undecided s t) × LowestPair (OpenMeeting self.entry.stops.now marks.now.first) s t) }
+        ensures { MatchResult result (λ _. (s t : ℕ) → ¬ OpenMeeting self.entry.stops.now marks.now.first s t) (λ e. (s : ℕ) × (t : ℕ) × (e ≡ Undecided s t) × LowestPair (OpenMeeting self.entry.stops.now marks.now.first) s t) }
     {
-        let mut later = [None; 1024];
+        let mut later = [None; MOST_STOPS];
         let later = &mut later[0..self.stops.len()];
         link_places(self.stops, later);
         ByPlace {
@@ -107,7 +111,7 @@ impl Tables<'_> {
         requires carrier { precedence.now.first < 64 }
         requires first_stop { precedence.now.first_stop < length self.legs.now }
         requires second_stop { precedence.now.second_stop < length self.legs.now }
-        ensures { MatchOption result ((s t : ℕ) → OpposedBy self.entry.routes.stops.now self.entry.legs.now marks.now.first precedence.now s t → ⊥) (λ p. (p.0 < 1024) × (p.1 < 1024) × OpposedBy self.entry.routes.stops.now self.entry.legs.now marks.now.first precedence.now p.0 p.1 × ((s t : ℕ) → OpposedBy self.entry.routes.stops.now self.entry.legs.now marks.now.first precedence.now s t → (p.0 ≡ s) × (p.1 ≡ t))) }
+        ensures { MatchOption result ((s t : ℕ) → ¬ OpposedBy self.entry.routes.stops.now self.entry.legs.now marks.now.first precedence.now s t) (λ p. (p.0 < 1024) × (p.1 < 1024) × OpposedBy self.entry.routes.stops.now self.entry.legs.now marks.now.first precedence.now p.0 p.1 × ((s t : ℕ) → OpposedBy self.entry.routes.stops.now self.entry.legs.now marks.now.first precedence.now s t → (p.0 ≡ s) × (p.1 ≡ t))) }
     {
         let stops = self.routes.stops;
         let legs = self.legs;

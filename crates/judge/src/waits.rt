@@ -6,9 +6,12 @@ ghost use Rattle.judge.specs.Waits.{LagOf, Lists, Travel, Waiting};
 
 use crate::tables::Tables;
 use arrayvec::ArrayVec;
-use lags::Lag;
+use lags::{Lag, MOST_LAGS};
 use sheet::records::Precedence;
 use yard::FollowingRule;
+
+// The lags of a sheet.
+pub(crate) type Lags = ArrayVec<Lag, MOST_LAGS>;
 
 // The gap less the travel time, plus the tick after.
 fn waiting_time(gap: u32, time: u16) -> i32
@@ -19,8 +22,8 @@ fn waiting_time(gap: u32, time: u16) -> i32
 }
 
 impl Tables<'_> {
-    // Adds the lag of the step to each stop that has one before it to the empty list.
-    fn gather_steps(self, lags: &mut ArrayVec<Lag, 3072>)
+    // Adds the lag of the step to each stop that has one before it to the empty list. By `enumerate`, as the legs are found.
+    fn gather_steps(self, lags: &mut Lags)
         requires { array_vec_len lags.old ≡ 0 }
         ensures few { array_vec_len lags.new ≤ length self.entry.routes.stops.now }
         ensures gathered { Lists (Travel self.entry.routes.stops.now self.entry.legs.now (length self.entry.routes.stops.now)) lags.new.items }
@@ -57,7 +60,7 @@ impl Tables<'_> {
     }
 
     // Adds the lag of each precedence to those of the steps.
-    fn gather_waits<R: FollowingRule>(self, rule: &R, lags: &mut ArrayVec<Lag, 3072>)
+    fn gather_waits<R: FollowingRule>(self, rule: &R, lags: &mut Lags)
         requires few { array_vec_len lags.old ≤ length self.routes.stops.now }
         requires travels { Lists (Travel self.routes.stops.now self.legs.now (length self.routes.stops.now)) lags.old.items }
         ensures { Lists (LagOf (R.FollowingRule.gaps rule.now) self.entry.routes.stops.now self.entry.legs.now self.entry.routes.precedences.now (length self.entry.routes.stops.now) (length self.entry.routes.precedences.now)) lags.new.items }
@@ -70,7 +73,7 @@ impl Tables<'_> {
     }
 
     // Adds the lags of the steps and of the precedences to the empty list.
-    pub(crate) fn gather_lags<R: FollowingRule>(self, rule: &R, lags: &mut ArrayVec<Lag, 3072>)
+    pub(crate) fn gather_lags<R: FollowingRule>(self, rule: &R, lags: &mut Lags)
         requires { array_vec_len lags.old ≡ 0 }
         ensures { Lists (LagOf (R.FollowingRule.gaps rule.now) self.entry.routes.stops.now self.entry.legs.now self.entry.routes.precedences.now (length self.entry.routes.stops.now) (length self.entry.routes.precedences.now)) lags.new.items }
     {

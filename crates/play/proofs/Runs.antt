@@ -3,10 +3,10 @@ use Rattle.std.proofs.Common.{◌≡◌, ℕ, ◌≤◌, Some, List, [], ◌∷�
 use Rattle.judge.specs.Findings.{Setting, Finds}
 use Rattle.judge.specs.FindingHistories.{Event, entered, judged, Happens, Lawful}
 use Rattle.plan.specs.Plans.{Lanes, Gaps}
-use Rattle.sheet.specs.Book.{Book, opened}
+use Rattle.sheet.specs.Book.{Book}
 use Rattle.sheet.specs.Calls.{Call as Entry, Answer as EntryAnswer, Answers, Leaves}
 use Rattle.sheet.specs.Histories.{History, opening, ◌▹◌}
-use Rattle.play.specs.Runs.{Beside, EnteredSo, JudgedSo, IsEvent, Played}
+use Rattle.play.specs.Runs.{Beside, EnteredSo, JudgedSo, IsEvent}
 use Rattle.play.specs.Verdicts.{VerdictResult, finding_of}
 use Rattle.play.specs.declared.answers.Answer.{Answer}
 use Rattle.play.specs.declared.answers.Answer.TheVariants.{Entered, Judged}
@@ -35,10 +35,6 @@ module _ {Y R : Type 0} (lanes : Y → Lanes) (gaps : R → Gaps) (largest : ℕ
     pub lawful : Lawful history b
 
 module _ {Y R : Type 0} {lanes : Y → Lanes} {gaps : R → Gaps} {largest : ℕ} where
-  -- no call yet
-  pub so_far_none : {answers : List Answer} {b : Book} → answers ≡ [] → b ≡ opened → SoFar lanes gaps largest [] answers b
-  so_far_none none new = record { history = opening; beside = rw none refl; lawful = new }
-
   -- one more
   pub further : {calls calls' : List (Call Y R)} {answers answers' : List Answer} {b b' : Book} (call : Call Y R) (answer : Answer) → SoFar lanes gaps largest calls answers b → ((e : Event) × IsEvent lanes gaps largest call answer e × Happens b e b') → calls' ≡ calls ++ call ∷ [] → answers' ≡ answers ++ answer ∷ [] → SoFar lanes gaps largest calls' answers' b'
   further {calls} {answers = answers} {b = b} call answer s (e, is, happens) its_calls its_answers =
@@ -47,7 +43,3 @@ module _ {Y R : Type 0} {lanes : Y → Lanes} {gaps : R → Gaps} {largest : ℕ
         beside = beside_more lanes gaps largest opening calls answers s.history call answer e s.beside is;
         lawful = (b, s.lawful, happens);
       })
-
-  -- all of them
-  pub played : {calls calls' : List (Call Y R)} {answers : List Answer} {b : Book} → calls ≡ calls' → SoFar lanes gaps largest calls answers b → Played lanes gaps largest calls' answers
-  played {b = b} all s = rw (← all) (record { history = s.history; book = b; beside = s.beside; lawful = s.lawful })

@@ -10,12 +10,13 @@ ghost use Rattle.play.specs.Verdicts.{finding_of};
 use crate::answers::{SheetRefusal, Verdict};
 use judge::judging::judge;
 use judge::refusal::JudgeRefusal;
+use sheet::limits::MOST_STOPS;
 use sheet::sheets::Sheet;
 use std::alloc::{AllocError, Global};
 use yard::{FollowingRule, Yard};
 
 // The refusal with the whole ring, of which the judging tells the length.
-// No conversion by `From`: a copy of the ring wants memory and reads the ring page.
+// No conversion by `From`: a copy of the ring needs memory and reads the ring page.
 fn whole_refusal(heap: Global, why: JudgeRefusal, ring: &[u16]) -> Result<SheetRefusal, AllocError>
     requires page { why ≢ PageTooShort }
     requires within { Within 0 (length ring.now) (Err why) }
@@ -44,8 +45,8 @@ pub fn judge_sheet<Y: Yard, R: FollowingRule>(
     ensures { IfOk result (λ v. Finds (record { lanes = Y.Yard.lanes yard.now; gap = R.FollowingRule.gaps rule.now; largest = R.FollowingRule.LARGEST_GAP }) (sheet_book sheet.now) (finding_of v)) }
 {
     // Pages for any sheet; judging lends its pages from the caller.
-    let mut timetable = [0; 1024];
-    let mut ring = [0; 1024];
+    let mut timetable = [0; MOST_STOPS];
+    let mut ring = [0; MOST_STOPS];
     match judge(sheet, yard, rule, &mut timetable, &mut ring) {
         Ok(stops) => {
             let timetable = Vec::from_slice(heap, &timetable[..usize::from(stops)])?;

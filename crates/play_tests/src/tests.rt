@@ -65,7 +65,7 @@ fn little_grid(rt: &impl Abort, heap: Global) -> Result<AnyYard, Fail> {
 fn fixed(rt: &impl Abort, ticks: u16) -> AnyRule {
     let mut gap = FixedGap::new();
     assert!(rt; gap.set(ticks).is_ok());
-    AnyRule::Fixed { gap }
+    AnyRule::FixedGap { gap }
 }
 
 // A list of calls that is being written.

@@ -1,5 +1,5 @@
 -- What a judging finds in a book, by tests.
-use Rattle.std.proofs.Common.{◌≡◌, ℕ, zero, suc, ◌-◌, ◌*◌, ◌<◌, ◌≤◌, ◌↔◌, max, Bool, true, false, cond, not, ◌&&◌, ◌||◌, T, eqb, ltb, leb, List, [], ◌∷◌, map, length, get_or, ℤ, pos, ◌+ℤ◌, Some, None, Option, sym, refl, ◌∙◌, subst, ⊎_elim, le_trans, mul-le-mul_left, arith, rules}
+use Rattle.std.proofs.Common.{◌≡◌, ℕ, zero, suc, ◌-◌, ◌*◌, ◌<◌, ◌≤◌, ◌↔◌, max, Bool, true, false, cond, not, ◌&&◌, ◌||◌, T, eqb, ltb, leb, List, [], ◌∷◌, map, length, slice_index_or, slice_index, ℤ, pos, ◌+ℤ◌, Some, None, Option, sym, refl, ◌∙◌, subst, ⊎_elim, le_trans, mul-le-mul_left, arith, rules}
 use mathlib.Core.Path.{subst₃}
 use native.Mathlib.Nat.{le-max_left}
 use lib.Signed.{le_z, lt_z}
@@ -24,12 +24,12 @@ use Rattle.worked.proofs.Tests.{home?, home, on_lanes?, on_lanes, whole?, whole,
 use Rattle.worked.proofs.Rounds.{rounds, rounds_under}
 
 -- every number of a list is at most n
-under_all : (n : ℕ) (times : List ℕ) → list_all (λ (t : ℕ). leb t n) times ≡ true → (s : ℕ) → get_or times s 0 ≤ n
+under_all : (n : ℕ) (times : List ℕ) → list_all (λ (t : ℕ). leb t n) times ≡ true → (s : ℕ) → slice_index times s ≤ n
 under_all n [] h s = omega arith
 under_all n (t ∷ ts) h zero = leb-true _ _ (and_parts _ _ h).0
 under_all n (t ∷ ts) h (suc s) = under_all n ts (and_parts _ _ h).1 s
 
-zeros_under : (β : ℕ → ℕ) (xs : List BookStop) (v : ℕ) → get_or (map (λ (x : BookStop). 0) xs) v 0 ≤ β v
+zeros_under : (β : ℕ → ℕ) (xs : List BookStop) (v : ℕ) → slice_index_or (map (λ (x : BookStop). 0) xs) v 0 ≤ β v
 zeros_under β [] v = omega arith
 zeros_under β (x ∷ xs) zero = omega arith
 zeros_under β (x ∷ xs) (suc v) = zeros_under (λ w. β (suc w)) xs v
@@ -97,7 +97,7 @@ a_ring Between from ts w round above h =
     }
 
 -- nothing is in an empty list of pairs
-none_in : (P : ℕ → ℕ → Type 0) (xs : List (ℕ × ℕ)) → Exactly (λ (n : ℕ × ℕ). P n.0 n.1) xs → xs ≡ [] → (s t : ℕ) → P s t → ⊥
+none_in : (P : ℕ → ℕ → Type 0) (xs : List (ℕ × ℕ)) → Exactly (λ (n : ℕ × ℕ). P n.0 n.1) xs → xs ≡ [] → (s t : ℕ) → ¬ P s t
 none_in P xs l e s t p = let at = subst (λ ys. Contains ys (s, t)) e (l.every (s, t) p) in absurd (omega (arith, at.1))
 
 module _ (y : Setting) (b : Book) where
@@ -123,11 +123,11 @@ module _ (y : Setting) (b : Book) where
 
   -- they keep every lag
   abbrev kept? : List ℕ → Bool
-  kept? times = list_all (λ (g : LagRecord). le_z (pos (get_or times g.from 0) +ℤ g.weight) (pos (get_or times g.to 0))) all_lags
+  kept? times = list_all (λ (g : LagRecord). le_z (pos (slice_index times g.from) +ℤ g.weight) (pos (slice_index times g.to))) all_lags
 
-  pub kept : (times : List ℕ) → kept? times ≡ true → Solution (Lag y.lanes y.gap b) (λ s. get_or times s 0)
+  pub kept : (times : List ℕ) → kept? times ≡ true → Solution (Lag y.lanes y.gap b) (λ s. slice_index times s)
   kept times h s t w lag =
-      let e = each_passes (IsLag b y.lanes y.gap) all_lags (λ g. le_z (pos (get_or times g.from 0) +ℤ g.weight) (pos (get_or times g.to 0))) (exactly_lags b y.lanes y.gap) h (record { from = s; to = t; weight = w }) lag in
+      let e = each_passes (IsLag b y.lanes y.gap) all_lags (λ g. le_z (pos (slice_index times g.from) +ℤ g.weight) (pos (slice_index times g.to))) (exactly_lags b y.lanes y.gap) h (record { from = s; to = t; weight = w }) lag in
       record { le = subst T (sym e) tt }
 
   -- a stop is not its carrier's first, or its arrival is 0
@@ -135,16 +135,16 @@ module _ (y : Setting) (b : Book) where
   earlier? p r = ltb r.0 p.0 && eqb r.1.carrier p.1.carrier
 
   abbrev from_zero? : List ℕ → Bool
-  from_zero? times = list_all (λ (p : AStop). eqb (get_or times p.0 0) 0 || list_any (earlier? p) (visits b)) (visits b)
+  from_zero? times = list_all (λ (p : AStop). eqb (slice_index times p.0) 0 || list_any (earlier? p) (visits b)) (visits b)
 
-  from_zero : (times : List ℕ) → from_zero? times ≡ true → FromZero b (λ s. get_or times s 0)
+  from_zero : (times : List ℕ) → from_zero? times ≡ true → FromZero b (λ s. slice_index times s)
   from_zero times h c s u at =
       let p : AStop = (s, record { carrier = c; place = u }) in
       ⊎_elim
       (λ e. eqb-true _ _ e)
       (λ e. let r = (decides_some (IsStop b) (λ (q : AStop). (q.0 < s) × (q.1.carrier ≡ c)) (visits b) (earlier? p) (exactly_visits b) (λ q. search (rules, decided_numbers))).0 e in
       absurd (at.first r.0.0 r.0.1.place r.2.0 (subst (λ (z : ℕ). Visits b r.0.0 z r.0.1.place) r.2.1 r.1)))
-      (or_cases _ _ (each_passes (IsStop b) (visits b) (λ q. eqb (get_or times q.0 0) 0 || list_any (earlier? q) (visits b)) (exactly_visits b) h p at.here))
+      (or_cases _ _ (each_passes (IsStop b) (visits b) (λ q. eqb (slice_index times q.0) 0 || list_any (earlier? q) (visits b)) (exactly_visits b) h p at.here))
 
   -- a ceiling whatever the rule's largest gap is
   abbrev top : ℕ
@@ -177,7 +177,7 @@ module _ (y : Setting) (b : Book) where
         ((whole y.lanes b tested).0, at, λ (α, good). decides.opposed_none s t at.0 α good)
 
     module _ (none : opposed b y.lanes ≡ []) where
-      none_opposed : (s t : ℕ) → Opposed y.lanes b s t → ⊥
+      none_opposed : (s t : ℕ) → ¬ Opposed y.lanes b s t
       none_opposed = none_in (Opposed y.lanes b) (opposed b y.lanes) (exactly_opposed b y.lanes) none
 
       -- stops wait for each other in a ring
@@ -197,11 +197,11 @@ module _ (y : Setting) (b : Book) where
             record {
               one_each = eqb-true _ _ q.0;
               earliest = record {
-                good = decides.kept_good complete none_opposed (λ s. get_or times s 0) (from_zero times r.1) (kept times r.0);
+                good = decides.kept_good complete none_opposed (λ s. slice_index times s) (from_zero times r.1) (kept times r.0);
                 least = λ β good s l.
                     let solves = decides.good_keeps β good in
-                    subst (λ (ts : List ℕ). get_or ts s 0 ≤ β s) e (rounds_under β (length b.stops) all_lags (map (λ (x : BookStop). 0) b.stops) (λ g k. solves g.from g.to g.weight ((exactly_lags b y.lanes y.gap).each g k)) (zeros_under β b.stops) s);
+                    subst (λ (ts : List ℕ). slice_index ts s ≤ β s) e (rounds_under β (length b.stops) all_lags (map (λ (x : BookStop). 0) b.stops) (λ g k. solves g.from g.to g.weight ((exactly_lags b y.lanes y.gap).each g k)) (zeros_under β b.stops) s);
               };
-              ceiling = λ s. top_low (get_or times s 0) (under_all top times q.1 s);
+              ceiling = λ s. top_low (slice_index times s) (under_all top times q.1 s);
             },
           )

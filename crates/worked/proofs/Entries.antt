@@ -179,7 +179,7 @@ by_tests [] n = Ok n
 by_tests (t ∷ ts) n = cond t.0 (Err t.1) (by_tests ts n)
 
 -- a check that does not apply leaves the answer to the others
-pass_on : (n : ℕ) (Applies : Type 0) (its_own : EntryRefusal) (cs : Checks) → (Applies → ⊥) → (a : Answer) → ByChecks n cs a → ByChecks n (check Applies its_own cs) a
+pass_on : (n : ℕ) (Applies : Type 0) (its_own : EntryRefusal) (cs : Checks) → ¬ Applies → (a : Answer) → ByChecks n cs a → ByChecks n (check Applies its_own cs) a
 pass_on n Applies its_own cs never (Ok m) k = search rules
 pass_on n Applies its_own cs never (Err r) k = search rules
 

@@ -1,5 +1,5 @@
 -- Lists that contain exactly what holds, put together from lists, and tests that go through them.
-use Rattle.std.proofs.Common.{◌≡◌, ℕ, zero, suc, ◌<◌, Bool, true, false, cond, ◌||◌, ◌⊎◌, List, [], ◌∷◌, ◌++◌, length, get_or, Some, None, Decides, Option, sym, refl, ap, ◌∙◌, subst, inl, inr, ⊎_elim, zero-add, arith}
+use Rattle.std.proofs.Common.{◌≡◌, ℕ, zero, suc, ◌<◌, Bool, true, false, cond, ◌||◌, ◌⊎◌, List, [], ◌∷◌, ◌++◌, length, slice_index_or, Some, None, Decides, Option, sym, refl, ap, ◌∙◌, subst, inl, inr, ⊎_elim, zero-add, arith}
 use Rattle.std.specs.List.{slice_get, Contains, list_any, list_all, flat_map, filter_map, cons_option, enumerate_from}
 use Rattle.std.proofs.iter.runs.Lists.{none-some, same_Some}
 use Rattle.std.proofs.lemmas.Bool.{false≢true}
@@ -50,8 +50,8 @@ module _ {A : Type 0} where
   abbrev pub numbered : List A → List (ℕ × A)
   numbered xs = enumerate_from 0 xs
 
-  get_or-numbered : (xs : List A) (k : ℕ) (d : ℕ × A) → k < length xs → get_or (numbered xs) k d ≡ (k, get_or xs k d.1)
-  get_or-numbered xs k d l = get_or-enumerate_from 0 xs k d l ∙ ap (λ (n : ℕ). (n, get_or xs k d.1)) (zero-add k)
+  get_or-numbered : (xs : List A) (k : ℕ) (d : ℕ × A) → k < length xs → slice_index_or (numbered xs) k d ≡ (k, slice_index_or xs k d.1)
+  get_or-numbered xs k d l = get_or-enumerate_from 0 xs k d l ∙ ap (λ (n : ℕ). (n, slice_index_or xs k d.1)) (zero-add k)
 
   -- exactly what stands in the list, with its number
   pub exactly_numbered : (xs : List A) → Exactly (λ (p : ℕ × A). slice_get xs p.0 ≡ Some p.1) (numbered xs)

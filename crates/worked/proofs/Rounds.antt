@@ -1,5 +1,5 @@
 -- The arrivals that rounds over the lags give, each lag in turn raising its end, are at no stop later than any that keep the lags.
-use Rattle.std.proofs.Common.{ℕ, zero, suc, ◌≤◌, max, List, [], ◌∷◌, get_or, set, ℤ, pos, negsuc, ◌+ℤ◌, ◌≤ℤ◌, arith}
+use Rattle.std.proofs.Common.{ℕ, zero, suc, ◌≤◌, max, List, [], ◌∷◌, slice_index, set, ℤ, pos, negsuc, ◌+ℤ◌, ◌≤ℤ◌, arith}
 use Rattle.std.specs.List.{Contains}
 use Rattle.std.proofs.lemmas.Grind.{common_steps}
 use Rattle.std.proofs.lemmas.Int.{ints}
@@ -9,7 +9,7 @@ use Rattle.worked.proofs.Lists.{Contains-here, Contains-later}
 
 -- no arrival is later
 abbrev pub Under : (ℕ → ℕ) → List ℕ → Type 0
-Under β times = (v : ℕ) → get_or times v 0 ≤ β v
+Under β times = (v : ℕ) → slice_index times v ≤ β v
 
 set_under : (β : ℕ → ℕ) (times : List ℕ) (i a : ℕ) → a ≤ β i → Under β times → Under β (set times i a)
 set_under β times i a h k v = grind (arith, common_steps, k v)
@@ -20,7 +20,7 @@ after_under x f t (negsuc n) h k = omega (arith, ints)
 
 -- a lag raises its end
 abbrev raised : List ℕ → Lag → List ℕ
-raised times g = set times g.to (max (get_or times g.to 0) (after (get_or times g.from 0) g.weight))
+raised times g = set times g.to (max (slice_index times g.to) (after (slice_index times g.from) g.weight))
 
 abbrev round : List Lag → List ℕ → List ℕ
 round [] times = times
@@ -37,8 +37,8 @@ module _ (β : ℕ → ℕ) where
   raised_under : (times : List ℕ) (g : Lag) → Keeps g → Under β times → Under β (raised times g)
   raised_under times g k under =
       let here = under g.to in
-      let there = after_under (get_or times g.from 0) (β g.from) (β g.to) g.weight (under g.from) k in
-      set_under β times g.to (max (get_or times g.to 0) (after (get_or times g.from 0) g.weight)) (omega arith) under
+      let there = after_under (slice_index times g.from) (β g.from) (β g.to) g.weight (under g.from) k in
+      set_under β times g.to (max (slice_index times g.to) (after (slice_index times g.from) g.weight)) (omega arith) under
 
   round_under : (gs : List Lag) (times : List ℕ) → ((g : Lag) → Contains gs g → Keeps g) → Under β times → Under β (round gs times)
   round_under [] times k under = under

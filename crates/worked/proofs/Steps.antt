@@ -71,7 +71,7 @@ module _ (b : Book) where
   abbrev next? : AStop → AStop → Bool
   next? p q = eqb q.1.carrier p.1.carrier && (ltb p.0 q.0 && not (between? p q))
 
-  decides_next : (p q : AStop) → Decides (next? p q) ((q.1.carrier ≡ p.1.carrier) × ((p.0 < q.0) × ((r : AStop) × IsStop r × ComesBetween p q r → ⊥)))
+  decides_next : (p q : AStop) → Decides (next? p q) ((q.1.carrier ≡ p.1.carrier) × ((p.0 < q.0) × ¬ ((r : AStop) × IsStop r × ComesBetween p q r)))
   decides_next p q =
       let between = decides_some IsStop (ComesBetween p q) visits (comes_between? p q) exactly_visits (λ r. search (rules, decided_numbers)) in
       search (rules, decided_numbers, between)
@@ -116,7 +116,7 @@ module _ (b : Book) where
 
   -- two carriers at one place, of which neither goes first
   abbrev Open : AStop × AStop → Type 0
-  Open p = (p.0.1.carrier ≢ p.1.1.carrier) × ((p.1.1.place ≡ p.0.1.place) × ((p.0.0 < p.1.0) × (Decided b p.0.1.carrier p.1.1.carrier p.0.1.place → ⊥)))
+  Open p = (p.0.1.carrier ≢ p.1.1.carrier) × ((p.1.1.place ≡ p.0.1.place) × ((p.0.0 < p.1.0) × ¬ Decided b p.0.1.carrier p.1.1.carrier p.0.1.place))
 
   abbrev open? : AStop × AStop → Bool
   open? p = not (eqb p.0.1.carrier p.1.1.carrier) && (eqb p.1.1.place p.0.1.place && (ltb p.0.0 p.1.0 && not (decided? b p.0.1.carrier p.1.1.carrier p.0.1.place)))

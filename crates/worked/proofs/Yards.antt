@@ -1,5 +1,5 @@
 -- Lists of lanes that may be laid and lists that are refused, and grids without lanes, by tests.
-use Rattle.std.proofs.Common.{◌≡◌, ℕ, zero, suc, ◌+◌, ◌-◌, ◌*◌, ◌<◌, ◌≤◌, Bool, true, not, ◌&&◌, ◌||◌, eqb, ltb, leb, List, [], ◌∷◌, length, get_or, is_some, None, Decides, refl, arith}
+use Rattle.std.proofs.Common.{◌≡◌, ℕ, zero, suc, ◌+◌, ◌-◌, ◌*◌, ◌<◌, ◌≤◌, Bool, true, not, ◌&&◌, ◌||◌, eqb, ltb, leb, List, [], ◌∷◌, length, slice_index_or, is_some, None, Decides, refl, arith}
 use Rattle.std.specs.List.{list_all}
 use Rattle.std.proofs.iter.runs.Lists.{none-some}
 use Rattle.std.proofs.lemmas.Bool.{and_parts, leb-true, ltb-true}
@@ -43,10 +43,10 @@ decides_before a b = grind (arith, nat_tests)
 
 -- the lanes below n are within the limits and rise
 abbrev rises? : List Lane → ℕ → ℕ → Bool
-rises? xs n k = not (ltb (k + 1) n) || before? (get_or xs k no_lane) (get_or xs (k + 1) no_lane)
+rises? xs n k = not (ltb (k + 1) n) || before? (slice_index_or xs k no_lane) (slice_index_or xs (k + 1) no_lane)
 
 abbrev clean? : List Lane → ℕ → Bool
-clean? xs n = below? (λ k. within? (get_or xs k no_lane)) n && below? (rises? xs n) n
+clean? xs n = below? (λ k. within? (slice_index_or xs k no_lane)) n && below? (rises? xs n) n
 
 -- a test that passes at every number below n passes at each
 below : (t : ℕ → Bool) (n : ℕ) → below? t n ≡ true → (k : ℕ) → k < n → t k ≡ true
@@ -55,7 +55,7 @@ below t n h = (Decides-below_and t (λ k. t k ≡ true) (below? t) (λ k. (λ e.
 clean : (xs : List Lane) (n : ℕ) → clean? xs n ≡ true → Clean xs n
 clean xs n h =
     let q = and_parts _ _ h in (
-      λ k l. (decides_within (get_or xs k no_lane)).0 (below (λ j. within? (get_or xs j no_lane)) n q.0 k l),
+      λ k l. (decides_within (slice_index_or xs k no_lane)).0 (below (λ j. within? (slice_index_or xs j no_lane)) n q.0 k l),
       λ k l. let here = below (rises? xs n) n q.1 k (omega arith) in grind (arith, nat_tests),
     )
 
@@ -81,8 +81,8 @@ clean_to xs i h =
 -- a list that is refused
 abbrev pub fault? : List Lane → LayRefusal → Bool
 fault? xs TooManyLanes = ltb 8192 (length xs)
-fault? xs (BadLane i) = clean_to? xs i && not (within? (get_or xs i no_lane))
-fault? xs (NotRising i) = clean_to? xs i && (within? (get_or xs i no_lane) && (ltb 0 i && not (before? (get_or xs (i - 1) no_lane) (get_or xs i no_lane))))
+fault? xs (BadLane i) = clean_to? xs i && not (within? (slice_index_or xs i no_lane))
+fault? xs (NotRising i) = clean_to? xs i && (within? (slice_index_or xs i no_lane) && (ltb 0 i && not (before? (slice_index_or xs (i - 1) no_lane) (slice_index_or xs i no_lane))))
 
 pub fault : (xs : List Lane) (e : LayRefusal) → fault? xs e ≡ true → Fault xs e
 fault xs TooManyLanes h = ltb-true _ _ h

@@ -1,85 +1,30 @@
-use Rattle.std.proofs.Common.{ℕ, max, length, Err, refl, ap, subst, ⊎_elim, arith}
+use Rattle.std.proofs.Common.{length, refl, ap, arith}
 use Rattle.std.proofs.lemmas.Result.{err_from_is_err_and}
-use Rattle.judge.specs.Lowest.{Lowest}
-use Rattle.sheet.specs.Sheets.{carriers_of, stops_of, precedences_of, sheet_book}
-use Rattle.sheet.proofs.Facts as facts
-use Rattle.judge.specs.declared.refusal.JudgeRefusal.TheVariants.{PageTooShort, NotAtGoal}
-use Rattle.judge.specs.Judged.{judging_of}
-use Rattle.judge.specs.Legs.{ShortOfGoal}
-use Rattle.judge.specs.Routing.{Routed}
-use Rattle.judge.specs.Settling.{Pages}
-use Rattle.judge.proofs.InFull.{goes_on_in_full, judged_in_full}
-use Rattle.judge.proofs.Judgements.{judged_short, judged_away, judged_routed, exactly, goes_on}
-use Rattle.judge.proofs.Routings.{routed_same, routed_within}
+use Rattle.judge.proofs.InFull.{judged_fully}
+use Rattle.judge.proofs.Judgements.{judged_short, judged_away, judged_routed}
+use Rattle.judge.proofs.Routings.{routed_within}
 use Rattle.judge.proofs.Tabled.{consistent}
 use Rattle.judge.proofs.judging.judge.Goals as goal
 
 pub invariant_of-routes : goal.invariant_of-routes
-invariant_of-routes g c =
-    let own = c.args.sheet.now in
-    record { consistent = consistent _ _ _ _ _ _ c.stops-stops.ensures c.precedences.ensures (facts.few_carriers own) refl (facts.few_stops own) (facts.few_precedences own) own.linked own.carried own.lawful }
+invariant_of-routes g c = record { consistent = consistent c.args.sheet.now _ _ c.stops-stops.ensures c.precedences.ensures }
 
 pub returns-then-timetable-stops : goal.returns-then-timetable-stops
 returns-then-timetable-stops g c =
-    let own = c.args.sheet.now in
-    let lanes = g.Y.Yard.lanes c.args.yard.now in
-    let gaps = g.R.FollowingRule.gaps c.args.rule.now in
-    let pages : Pages = record { timetable = c.args.timetable.now; ring = c.args.ring.now; timetable_after = c.args.timetable.now; ring_after = c.args.ring.now } in
     let long = ap length c.stops-stops.ensures in
-    let J = judged_short own lanes gaps g.R.FollowingRule.LARGEST_GAP (g.met.Y.Yard.limited _) pages
-    (λ f. ⊎_elim (λ a. omega (arith, f.0)) (λ a. omega (arith, f.1, a.1)) c.then-timetable-stops.either) (refl, refl) in
-    let j = judging_of lanes gaps g.R.FollowingRule.LARGEST_GAP c.args.timetable.now c.args.ring.now c.args.timetable.now c.args.ring.now (Err PageTooShort) in
-    record {
-      judges = judged_in_full j (sheet_book own) J;
-      exactly = exactly j (sheet_book own) J;
-      goes_on = goes_on_in_full j (sheet_book own) J;
-      concludes = J;
-      continues = goes_on j (sheet_book own) J;
-      within = tt;
-    }
+    judged_fully _ _ (judged_short c.args.sheet.now _ _ _ (g.met.Y.Yard.limited _) _ (λ f. grind (arith, f, long, c.then-timetable-stops.either)) (refl, refl)) tt
 
 pub returns-in_err-check_goals : goal.returns-in_err-check_goals
 returns-in_err-check_goals g c =
-    let own = c.args.sheet.now in
-    let lanes = g.Y.Yard.lanes c.args.yard.now in
-    let gaps = g.R.FollowingRule.gaps c.args.rule.now in
-    let pages : Pages = record { timetable = c.args.timetable.now; ring = c.args.ring.now; timetable_after = c.args.timetable.now; ring_after = c.args.ring.now } in
     let long = ap length c.stops-stops.ensures in
-    let away = c.in_err-check_goals.ensures in
-    let low = subst (λ xs. Lowest (ShortOfGoal xs) away.0) c.carriers.ensures away.2 in
-    let J = judged_away own lanes gaps g.R.FollowingRule.LARGEST_GAP (g.met.Y.Yard.limited _) pages (omega arith, omega arith) away.0 low (refl, refl) in
+    let away = rw c.carriers.ensures at c.in_err-check_goals.ensures in
     let p = err_from_is_err_and c.from_residual.result c.from_residual.ensures.1 in
-    let j = judging_of lanes gaps g.R.FollowingRule.LARGEST_GAP c.args.timetable.now c.args.ring.now c.args.timetable.now c.args.ring.now (Err (NotAtGoal away.0)) in
-    rw (p.1, p.2, away.1) (record {
-      judges = judged_in_full j (sheet_book own) J;
-      exactly = exactly j (sheet_book own) J;
-      goes_on = goes_on_in_full j (sheet_book own) J;
-      concludes = J;
-      continues = goes_on j (sheet_book own) J;
-      within = tt;
-    })
+    rw (p.1, p.2, away.1) (judged_fully _ _ (judged_away c.args.sheet.now _ _ _ (g.met.Y.Yard.limited _) _ (omega arith, omega arith) away.0 away.2 (refl, refl)) tt)
 
 pub returns : goal.returns
 returns g c =
-    let own = c.args.sheet.now in
-    let stops = c.stops-stops.ensures in
-    let precedences = c.precedences.ensures in
-    let carriers = c.carriers.ensures in
-    let lanes = g.Y.Yard.lanes c.args.yard.now in
-    let gaps = g.R.FollowingRule.gaps c.args.rule.now in
-    let largest = g.R.FollowingRule.LARGEST_GAP in
-    let pages : Pages = record { timetable = c.args.timetable.now; ring = c.args.ring.now; timetable_after = c.judge_routes.new.timetable; ring_after = c.judge_routes.new.ring } in
-    let routed : Routed lanes gaps (max 36000 largest) (stops_of own) (precedences_of own) pages c.judge_routes.result =
-    routed_same lanes gaps (max 36000 largest) pages c.judge_routes.result _ _ _ _ stops precedences c.judge_routes.ensures in
-    let home : (k : ℕ) → ShortOfGoal (carriers_of own) k → ⊥ = subst (λ xs. (k : ℕ) → ShortOfGoal xs k → ⊥) carriers c.in_ok-check_goals.ensures in
-    let long = ap length stops in
-    let j = judging_of lanes gaps largest c.args.timetable.now c.args.ring.now c.judge_routes.new.timetable c.judge_routes.new.ring c.judge_routes.result in
-    let J = judged_routed own lanes gaps largest (g.met.Y.Yard.limited _) pages (omega arith, omega arith) home c.judge_routes.result routed in
-    record {
-      judges = judged_in_full j (sheet_book own) J;
-      exactly = exactly j (sheet_book own) J;
-      goes_on = goes_on_in_full j (sheet_book own) J;
-      concludes = J;
-      continues = goes_on j (sheet_book own) J;
-      within = routed_within lanes gaps (max 36000 largest) _ _ pages (omega arith) c.judge_routes.auto.ring c.judge_routes.result c.judge_routes.ensures;
-    }
+    let long = ap length c.stops-stops.ensures in
+    let routed = rw (c.stops-stops.ensures, c.precedences.ensures) at c.judge_routes.ensures in
+    let home = rw c.carriers.ensures at c.in_ok-check_goals.ensures in
+    judged_fully _ _ (judged_routed c.args.sheet.now _ _ _ (g.met.Y.Yard.limited _) _ (omega arith, omega arith) home _ routed)
+    (routed_within _ _ _ _ _ _ (omega arith) c.judge_routes.auto.ring _ c.judge_routes.ensures)

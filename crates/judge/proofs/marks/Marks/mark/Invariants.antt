@@ -1,6 +1,5 @@
-use Rattle.std.proofs.Common.{◌≡◌, length}
 use Rattle.judge.specs.Meetings.{Leads}
 use Rattle.judge.proofs.marks.Marks.mark.Given as goal
 
 abbrev pub invariant-loop-precedence : goal.invariant-loop-precedence
-invariant-loop-precedence l = (length l.self.first ≡ 65536) × Leads l.precedence-items l.precedence-index l.self.first
+invariant-loop-precedence l = Leads l.precedence-items l.precedence-index l.self.first

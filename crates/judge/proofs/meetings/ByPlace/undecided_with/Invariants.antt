@@ -1,4 +1,4 @@
-use Rattle.std.proofs.Common.{ℕ, ◌-◌, length, unwrap_or}
+use Rattle.std.proofs.Common.{◌-◌, length, unwrap_or}
 use Rattle.judge.proofs.ChainSteps.{Left}
 use Rattle.judge.proofs.meetings.ByPlace.undecided_with.Given as goal
 
