@@ -5,8 +5,6 @@ use Rattle.std.proofs.lemmas.Bool.{cond_both, cond-false, eqb-true, eq-eqb, not-
 use Rattle.std.proofs.lemmas.Bool.Decides.{nat_tests}
 use Rattle.std.proofs.lemmas.List.{drop_more, drop_all}
 use Rattle.std.proofs.lemmas.List.Sums.{fails_before_first}
-use Rattle.lines.specs.declared.entry.Rule.{Rule}
-use Rattle.lines.specs.declared.entry.Rule.TheVariants.{FullLane, LaneLessOne, FixedGap}
 use Rattle.lines.specs.declared.entry.Entry.{Entry}
 use Rattle.lines.specs.declared.entry.Entry.TheVariants.{Carrier, Stop, Precedence, Strike, Judge, Lane}
 use Rattle.lines.specs.declared.entry.Input.{Input}
@@ -14,10 +12,13 @@ use Rattle.lines.specs.declared.entry.Input.TheVariants.{Yard, Sheet}
 use Rattle.lines.specs.declared.refusal.LineRefusal.{LineRefusal}
 use Rattle.lines.specs.declared.refusal.LineRefusal.TheVariants.{BadLength}
 use Rattle.lines.specs.Digits.{value_of, first_bad, digits, line_bytes, two}
-use Rattle.lines.specs.Entries.{kind_of, fields_of, rule_byte, gap_of, line_of, Lawful, has, Says}
+use Rattle.lines.specs.Entries.{kind_of, fields_of, rule_byte, line_of, Lawful, has, Says}
 use Rattle.lines.specs.Reading.{Check, checks, checked, first_byte, word, size_of, unruled, rule_of, entry_of, reading}
 use Rattle.lines.proofs.Hexadecimal.{length_digits, bytes_digits, first_bad_digits, digits_bytes, small_bytes}
 use Rattle.lines.proofs.Readings.{saying, any_saying, even_line, reading_kept}
+use Rattle.yard.specs.declared.rules.Rule.{Rule}
+use Rattle.yard.specs.declared.rules.Rule.TheVariants.{FullLane, LaneLessOne, FixedGap}
+use Rattle.yard.specs.Rules.{gap_of}
 
 -- the bytes of an entry
 
@@ -90,7 +91,7 @@ known Sheet k h = let p : 1 ≤ k = grind (arith, nat_tests) in let q : k ≤ 5 
 -- a rule byte and a gap that go together are those of a rule
 ruled : (rule gap : ℕ) → unruled rule gap ≡ false → (rule_byte (rule_of rule gap) ≡ rule) × (gap_of (rule_of rule gap) ≡ gap) × (gap ≤ 36000)
 ruled rule gap h =
-    let P : Rule → Type 0 = λ r. (rule_byte r ≡ rule) × (gap_of r ≡ gap) × (gap ≤ 36000) in
+    let P : Rule ℕ → Type 0 = λ r. (rule_byte r ≡ rule) × (gap_of r ≡ gap) × (gap ≤ 36000) in
     cond_both (eqb rule 0) FullLane (cond (eqb rule 1) LaneLessOne (FixedGap gap)) P
     (λ q. (grind (arith, nat_tests), grind (arith, nat_tests), grind (arith, nat_tests)))
     (λ n. cond_both (eqb rule 1) LaneLessOne (FixedGap gap) P

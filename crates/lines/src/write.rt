@@ -2,9 +2,10 @@
 ghost use Rattle.std.specs.Prelude.{◌≡◌, ℕ, true, take, drop, is_ok, if◌then◌else◌, Ok, Err, nat_lt};
 ghost use Rattle.lines.specs.declared.entry.Entry.TheVariants.{Judge};
 ghost use Rattle.lines.specs.declared.refusal.WriteRefusal.TheVariants.{GapTooLong};
-ghost use Rattle.lines.specs.Entries.{rule_byte, gap_of, kind_of, line_of, has};
+ghost use Rattle.lines.specs.Entries.{rule_byte, kind_of, line_of, has};
 ghost use Rattle.lines.specs.Pages.{written, writing};
 ghost use Rattle.lines.specs.Reading.{reading};
+ghost use Rattle.yard.specs.Rules.{gap_of};
 
 use crate::entry::{Entry, Input, Rule};
 use crate::page::write_bytes;

@@ -2,8 +2,9 @@ use Rattle.std.proofs.Common.{◌≡◌, ℕ, ◌≤◌, false, ltb, List, [], �
 use Rattle.std.proofs.lemmas.Bool.{ltb-false}
 use Rattle.lines.specs.declared.entry.Entry.{Entry}
 use Rattle.lines.specs.declared.entry.Entry.TheVariants.{Judge}
-use Rattle.lines.specs.Entries.{kind_of, fields_of, rule_byte, gap_of}
+use Rattle.lines.specs.Entries.{kind_of, fields_of, rule_byte}
 use Rattle.lines.proofs.Writes.{outcome}
+use Rattle.yard.specs.Rules.{gap_of}
 use Rattle.lines.proofs.write.write_judge.Goals as goal
 
 pub returns : goal.returns
