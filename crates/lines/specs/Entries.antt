@@ -1,5 +1,5 @@
 -- The line of an entry.
-use Rattle.std.specs.Prelude.{◌≡◌, ℕ, ◌^◌, ◌<◌, ◌≤◌, Bool, true, ◌&&◌, List, [], ◌∷◌, ◌==◌, nat_le}
+use Rattle.std.specs.Prelude.{◌≡◌, ℕ, ◌^◌, ◌<◌, ◌≤◌, Bool, IsTrue, ◌&&◌, List, [], ◌∷◌, ◌==◌, nat_le}
 use Rattle.lines.specs.declared.entry.Entry.{Entry}
 use Rattle.lines.specs.declared.entry.Entry.TheVariants.{Carrier, Stop, Precedence, Strike, Judge, Lane}
 use Rattle.lines.specs.declared.entry.Input.{Input}
@@ -60,4 +60,4 @@ has Sheet kind = nat_le 1 kind && nat_le kind 5
 
 -- the line says the entry: it is the line of that entry, the entry is lawful, and the input has its kind
 abbrev pub Says : Input → List ℕ → Entry → Type 0
-Says input line e = (line ≡ line_of e) × Lawful e × (has input (kind_of e) ≡ true)
+Says input line e = (line ≡ line_of e) × Lawful e × IsTrue (has input (kind_of e))
