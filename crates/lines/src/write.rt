@@ -25,6 +25,7 @@ fn rule_fields(rule: Rule) -> Result<(u8, u16), WriteRefusal>
 }
 
 // Writes the line of a judging.
+#[tactic(auto, unfolding(crate::specs::Entries::line_of))]
 fn write_judge(rule: Rule, page: &mut [u8], at: usize) -> Result<usize, WriteRefusal>
     ensures value { result ≡ writing page.old at (Judge rule) }
     ensures after { page.new ≡ (if is_ok result then written page.old at (line_of (Judge rule)) else page.old) }
@@ -37,6 +38,7 @@ fn write_judge(rule: Rule, page: &mut [u8], at: usize) -> Result<usize, WriteRef
 
 // Writes the line of an entry into the page from the position `at` on, and answers how many bytes these are. The kinds
 // stay bytes: `Entry` is their enum, and the arms are the table of the format.
+#[tactic(auto, unfolding(crate::specs::Entries::line_of))]
 pub fn write_entry(entry: &Entry, page: &mut [u8], at: usize) -> Result<usize, WriteRefusal>
     ensures value { result ≡ writing page.old at entry.now }
     ensures after { page.new ≡ (if is_ok result then written page.old at (line_of entry.now) else page.old) }
