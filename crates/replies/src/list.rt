@@ -1,6 +1,6 @@
 // Lists of numbers in a reply.
 ghost use Rattle.std.specs.Prelude.{◌≡◌, ℕ, ◌*◌, ◌<◌, ◌≤◌, List, ◌++◌, length, take, drop, is_ok, if◌then◌else◌, Ok, Err, nat_lt};
-ghost use Rattle.std.specs.List.{flat_map, All, AllByRecursion};
+ghost use Rattle.std.specs.List.{flat_map, All};
 ghost use Rattle.lines.specs.declared.refusal.WriteRefusal.TheVariants.{ListTooLong};
 ghost use Rattle.lines.specs.Digits.{digits, line_bytes};
 ghost use Rattle.lines.specs.Pages.{written, placing};
@@ -27,7 +27,7 @@ pub(crate) trait Listed<const SIZE: usize> {
 
     ghost short: { SIZE ≤ 4 };
 
-    ghost small: { (x : Self) → AllByRecursion (λ b. b < 256) (bytes x) };
+    ghost small: { (x : Self) → All (λ b. b < 256) (bytes x) };
 }
 
 // A stop, in two bytes.
