@@ -25,8 +25,8 @@ fn read_rule(rule: u8, gap: u16) -> Result<Rule, LineRefusal>
 
 // The entry of a kind and its fields. The kinds stay bytes: the patterns are the table of the format.
 fn read_fields(bytes: &[u8]) -> Result<Entry, LineRefusal>
-    requires from_1 { 1 ≤ first_byte bytes.now }
-    requires to_6 { first_byte bytes.now ≤ 6 }
+    requires lowest { 1 ≤ first_byte bytes.now }
+    requires highest { first_byte bytes.now ≤ 6 }
     ensures { result ≡ checked (wrong_length bytes.now ∷ bad_rule bytes.now ∷ []) (entry_of bytes.now) }
 {
     match *bytes {

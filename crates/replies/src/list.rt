@@ -72,7 +72,7 @@ fn write_numbers<N: Listed<SIZE>, const SIZE: usize>(
     requires room { 2 * length (flat_map N.Listed.bytes numbers.now) ≤ length part.old }
     ensures value { result ≡ Ok (2 * length (flat_map N.Listed.bytes numbers.now)) }
     ensures after { part.new ≡ digits (flat_map N.Listed.bytes numbers.now) ++ drop (2 * length (flat_map N.Listed.bytes numbers.now)) part.old }
-    ensures back { All (λ x. (rest : List ℕ) → N.Listed.front (N.Listed.bytes x ++ rest) ≡ x) numbers.now }
+    ensures each { All (λ x. (rest : List ℕ) → N.Listed.front (N.Listed.bytes x ++ rest) ≡ x) numbers.now }
 {
     let mut at = 0;
     for number in numbers {
@@ -90,7 +90,8 @@ pub(crate) fn write_list<N: Listed<SIZE>, const SIZE: usize>(
 ) -> Result<usize, WriteRefusal>
     ensures value { result ≡ (if nat_lt 65535 (length numbers.now) then Err ListTooLong else placing page.old at (digits (listed code N.Listed.bytes numbers.now))) }
     ensures after { page.new ≡ (if is_ok result then written page.old at (digits (listed code N.Listed.bytes numbers.now)) else page.old) }
-    ensures back { (n : ℕ) → result ≡ Ok n → (line_bytes (take n (drop at page.new)) ≡ listed code N.Listed.bytes numbers.now) × All (λ x. (rest : List ℕ) → N.Listed.front (N.Listed.bytes x ++ rest) ≡ x) numbers.now }
+    ensures back { (n : ℕ) → result ≡ Ok n → line_bytes (take n (drop at page.new)) ≡ listed code N.Listed.bytes numbers.now }
+    ensures each { (n : ℕ) → result ≡ Ok n → All (λ x. (rest : List ℕ) → N.Listed.front (N.Listed.bytes x ++ rest) ≡ x) numbers.now }
 {
     let Ok(count) = u16::try_from(numbers.len()) else {
         return Err(WriteRefusal::ListTooLong);
