@@ -1,6 +1,6 @@
 -- The line of an entry reads as that entry, and no other line does.
-use Rattle.std.proofs.Common.{◌≡◌, ◌↔◌, ℕ, zero, suc, ◌+◌, ◌*◌, ◌/◌, ◌%◌, ◌^◌, ◌<◌, ◌≤◌, Bool, true, false, cond, ◌&&◌, ◌||◌, eqb, ltb, List, [], ◌∷◌, length, get_or, is_none, take, Ok, Err, Result, All, sym, refl, ap, ◌∙◌, subst, arith, rules}
-use Rattle.std.proofs.lemmas.Bool.{cond_both, cond-false, eqb-true, eq-eqb, not-false, ltb-false}
+use Rattle.std.proofs.Common.{◌≡◌, ◌↔◌, ℕ, ◌+◌, ◌*◌, ◌/◌, ◌%◌, ◌^◌, ◌<◌, ◌≤◌, Bool, true, false, cond, ◌&&◌, ◌||◌, eqb, ltb, List, [], ◌∷◌, length, get_or, is_none, take, Ok, Err, Result, All, sym, ap, ◌∙◌, subst, arith}
+use Rattle.std.proofs.lemmas.Bool.{cond-false, eqb-true, not-false, ltb-false}
 use Rattle.std.proofs.lemmas.Bool.Decides.{nat_tests}
 use Rattle.std.proofs.lemmas.Grind.{common_steps}
 use Rattle.std.proofs.lemmas.List.{get_or_past}
@@ -16,7 +16,6 @@ use Rattle.lines.specs.Entries.{kind_of, fields_of, rule_byte, line_of, Lawful, 
 use Rattle.lines.specs.Reading.{empty_or_odd, unknown_kind, wrong_length, bad_rule, first_byte, word, size_of, unruled, rule_of, entry_of, reading}
 use Rattle.lines.proofs.Hexadecimal.{IsByte, length_digits, bytes_digits, first_bad_digits, digits_bytes, small_bytes}
 use Rattle.lines.proofs.Readings.{saying, any_saying, even_line, reading_kept}
-use Rattle.yard.specs.declared.rules.Rule.TheVariants.{FullLane, LaneLessOne, FixedGap}
 use Rattle.yard.specs.Rules.{gap_of}
 
 -- the bytes of an entry
