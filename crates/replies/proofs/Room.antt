@@ -1,9 +1,8 @@
 -- Whether a page has room for a reply, and what then stands in it.
-use Rattle.std.proofs.Common.{◌≡◌, ℕ, ◌+◌, ◌*◌, ◌≤◌, true, false, cond, ltb, List, length, take, drop, is_ok, IfOk, Ok, Err, Result, sym, refl, ap, ◌∙◌, arith}
+use Rattle.std.proofs.Common.{◌≡◌, ℕ, ◌+◌, ◌*◌, ◌≤◌, true, cond, List, length, take, drop, is_ok, IfOk, Ok, Err, Result, refl, arith}
 use Rattle.std.proofs.lemmas.Bool.Decides.{nat_tests}
 use Rattle.lines.specs.Pages.{placing, written}
 use Rattle.lines.specs.declared.refusal.WriteRefusal.{WriteRefusal}
-use Rattle.lines.specs.declared.refusal.WriteRefusal.TheVariants.{ListTooLong, PageTooShort}
 use Rattle.lines.proofs.Hexadecimal.{length_digits}
 use Rattle.lines.proofs.Placing.{placed_there}
 use Rattle.replies.specs.Answers.{Answer, accepted, passed, ring, refused, bytes_of, count, four, line_of, pair, writing}

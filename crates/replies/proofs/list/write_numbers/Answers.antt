@@ -1,4 +1,4 @@
-use Rattle.std.proofs.Common.{◌≡◌, ℕ, ◌*◌, List, ◌++◌, length, subst, arith, rules}
+use Rattle.std.proofs.Common.{◌≡◌, ℕ, ◌*◌, List, ◌++◌, length, subst, rules}
 use Rattle.std.proofs.lemmas.List.Elements.{All-more}
 use Rattle.lines.specs.Digits.{digits}
 use Rattle.lines.specs.Pages.{placing}
