@@ -1,8 +1,11 @@
 -- Bytes and their digits.
-use Rattle.std.proofs.Common.{◌≡◌, ℕ, suc, ◌*◌, ◌/◌, ◌%◌, ◌<◌, false, List, [], ◌∷◌, ◌++◌, length, get_or, is_none, Some, unwrap_or, refl, ap, arith}
-use Rattle.std.specs.List.{AllByRecursion as All}
+use Rattle.std.proofs.Common.{◌≡◌, ℕ, suc, ◌*◌, ◌/◌, ◌%◌, ◌<◌, false, List, [], ◌∷◌, ◌++◌, length, get_or, is_none, Some, unwrap_or, All, refl, ap, subst, arith}
 use Rattle.std.proofs.lemmas.Bool.Decides.{nat_tests}
+use Rattle.std.proofs.lemmas.List.Elements.{All-nil, All-cons, All-head, All-tail}
 use Rattle.lines.specs.Digits.{digit_for, value_of, first_bad, digits, byte, line_bytes}
+
+abbrev pub IsByte : ℕ → Type 0
+IsByte b = b < 256
 
 pub length_digits : (bs : List ℕ) → length (digits bs) ≡ 2 * length bs
 length_digits [] = refl
@@ -21,36 +24,33 @@ digit_value b h = grind (arith, nat_tests)
 value_small : (b : ℕ) → unwrap_or (value_of b) 0 < 16
 value_small b = grind (arith, nat_tests)
 
-byte_back : (b : ℕ) → b < 256 → byte (digit_for (b / 16)) (digit_for (b % 16)) ≡ b
-byte_back b h = rw (value_digit (b / 16) (omega arith), value_digit (b % 16) (omega arith)) (omega arith)
-
 -- the digits of bytes stand for these bytes
-pub bytes_digits : (bs : List ℕ) → All (λ b. b < 256) bs → line_bytes (digits bs) ≡ bs
+pub bytes_digits : (bs : List ℕ) → All IsByte bs → line_bytes (digits bs) ≡ bs
 bytes_digits [] h = refl
 bytes_digits (b ∷ bs) h =
-    let p = byte_back b h.0 in
-    let q = bytes_digits bs h.1 in
-    cc
+    let small = All-head IsByte b bs h in
+    let rest = bytes_digits bs (All-tail IsByte b bs h) in
+    grind (arith, value_digit)
 
 -- and none of them is a bad digit
-pub first_bad_digits : (bs : List ℕ) → All (λ b. b < 256) bs → first_bad (digits bs) ≡ length (digits bs)
+pub first_bad_digits : (bs : List ℕ) → All IsByte bs → first_bad (digits bs) ≡ length (digits bs)
 first_bad_digits [] h = refl
 first_bad_digits (b ∷ bs) h =
-    let k : b < 256 = h.0 in
-    let q = first_bad_digits bs h.1 in
-    rw (value_digit (b / 16) (omega arith), value_digit (b % 16) (omega arith)) (omega arith)
+    let small = All-head IsByte b bs h in
+    let rest = first_bad_digits bs (All-tail IsByte b bs h) in
+    grind (arith, value_digit)
 
 -- a line of digits is written again from its bytes
 pub digits_bytes : (line : List ℕ) → ((k : ℕ) → k < length line → is_none (value_of (get_or line k 0)) ≡ false) → length line % 2 ≡ 0 → digits (line_bytes line) ≡ line
 digits_bytes [] h e = refl
 digits_bytes (a ∷ []) h e = absurd (omega arith)
 digits_bytes (a ∷ b ∷ rest) h e =
-    let q = digits_bytes rest (λ k l. h (suc (suc k)) (omega arith)) (omega arith) in
-    let s = value_small b in
-    let x : byte a b / 16 ≡ unwrap_or (value_of a) 0 = omega arith in
-    let y : byte a b % 16 ≡ unwrap_or (value_of b) 0 = omega arith in
-    let da = digit_value a (h 0 (omega arith)) in
-    let db = digit_value b (h 1 (omega arith)) in
+    let later = digits_bytes rest (λ k l. h (suc (suc k)) (omega arith)) (omega arith) in
+    let small = value_small b in
+    let first = digit_value a (h 0 (omega arith)) in
+    let second = digit_value b (h 1 (omega arith)) in
+    let high : byte a b / 16 ≡ unwrap_or (value_of a) 0 = omega arith in
+    let low : byte a b % 16 ≡ unwrap_or (value_of b) 0 = omega arith in
     cc
 
 pub length_bytes : (line : List ℕ) → length (line_bytes line) ≡ length line / 2
@@ -58,7 +58,11 @@ length_bytes [] = refl
 length_bytes (a ∷ []) = refl
 length_bytes (a ∷ b ∷ rest) = omega (arith, length_bytes rest)
 
-pub small_bytes : (line : List ℕ) → All (λ b. b < 256) (line_bytes line)
-small_bytes [] = tt
-small_bytes (a ∷ []) = tt
-small_bytes (a ∷ b ∷ rest) = (omega (arith, value_small a, value_small b), small_bytes rest)
+pub small_bytes : (line : List ℕ) → All IsByte (line_bytes line)
+small_bytes [] = All-nil IsByte
+small_bytes (a ∷ []) = All-nil IsByte
+small_bytes (a ∷ b ∷ rest) = All-cons IsByte (byte a b) (line_bytes rest) (grind (arith, nat_tests)) (small_bytes rest)
+
+-- what a line stands for are bytes
+pub bytes_of_line : (line bs : List ℕ) → line_bytes line ≡ bs → All IsByte bs
+bytes_of_line line bs h = subst (All IsByte) h (small_bytes line)

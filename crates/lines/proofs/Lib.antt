@@ -4,4 +4,3 @@ pub mod Placing
 pub mod Readings
 pub mod RoundTrip
 pub mod Writes
-pub mod Takes

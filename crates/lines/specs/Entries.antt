@@ -1,24 +1,19 @@
 -- The line of an entry.
-use Rattle.std.specs.Prelude.{◌≡◌, ℕ, ◌^◌, ◌<◌, ◌≤◌, Bool, true, ◌&&◌, List, [], ◌∷◌, ◌==◌, nat_le}
-use Rattle.lines.specs.declared.entry.Rule.{Rule}
-use Rattle.lines.specs.declared.entry.Rule.TheVariants.{FullLane, LaneLessOne, FixedGap}
+use Rattle.std.specs.Prelude.{◌≡◌, ℕ, ◌^◌, ◌<◌, ◌≤◌, Bool, IsTrue, ◌&&◌, List, [], ◌∷◌, ◌==◌, nat_le}
 use Rattle.lines.specs.declared.entry.Entry.{Entry}
 use Rattle.lines.specs.declared.entry.Entry.TheVariants.{Carrier, Stop, Precedence, Strike, Judge, Lane}
 use Rattle.lines.specs.declared.entry.Input.{Input}
 use Rattle.lines.specs.declared.entry.Input.TheVariants.{Yard, Sheet}
 use Rattle.lines.specs.Digits.{digits, two}
+use Rattle.yard.specs.declared.rules.Rule.{Rule}
+use Rattle.yard.specs.declared.rules.Rule.TheVariants.{FullLane, LaneLessOne, FixedGap}
+use Rattle.yard.specs.Rules.{gap_of}
 
 -- the rule byte
-abbrev pub rule_byte : Rule → ℕ
+abbrev pub rule_byte : Rule ℕ → ℕ
 rule_byte FullLane = 0
 rule_byte LaneLessOne = 1
 rule_byte (FixedGap gap) = 2
-
--- the gap beside the rule byte: that of a fixed gap, else 0
-abbrev pub gap_of : Rule → ℕ
-gap_of FullLane = 0
-gap_of LaneLessOne = 0
-gap_of (FixedGap gap) = gap
 
 abbrev pub kind_of : Entry → ℕ
 kind_of (Carrier start goal) = 1
@@ -65,4 +60,4 @@ has Sheet kind = nat_le 1 kind && nat_le kind 5
 
 -- the line says the entry: it is the line of that entry, the entry is lawful, and the input has its kind
 abbrev pub Says : Input → List ℕ → Entry → Type 0
-Says input line e = (line ≡ line_of e) × Lawful e × (has input (kind_of e) ≡ true)
+Says input line e = (line ≡ line_of e) × Lawful e × IsTrue (has input (kind_of e))

@@ -1,7 +1,5 @@
 -- What a line reads as: the checks in their order, and the entry if none applies.
 use Rattle.std.specs.Prelude.{ℕ, ◌+◌, ◌*◌, ◌%◌, Bool, cond, not, ◌&&◌, ◌||◌, List, [], ◌∷◌, length, Ok, Err, Result, ◌==◌, nat_le, nat_lt, slice_index}
-use Rattle.lines.specs.declared.entry.Rule.{Rule}
-use Rattle.lines.specs.declared.entry.Rule.TheVariants.{FullLane, LaneLessOne, FixedGap}
 use Rattle.lines.specs.declared.entry.Entry.{Entry}
 use Rattle.lines.specs.declared.entry.Entry.TheVariants.{Carrier, Stop, Precedence, Strike, Judge, Lane}
 use Rattle.lines.specs.declared.entry.Input.{Input}
@@ -9,6 +7,8 @@ use Rattle.lines.specs.declared.refusal.LineRefusal.{LineRefusal}
 use Rattle.lines.specs.declared.refusal.LineRefusal.TheVariants.{BadDigit, BadLength, UnknownKind, BadRule}
 use Rattle.lines.specs.Digits.{first_bad, line_bytes}
 use Rattle.lines.specs.Entries.{has}
+use Rattle.yard.specs.declared.rules.Rule.{Rule}
+use Rattle.yard.specs.declared.rules.Rule.TheVariants.{FullLane, LaneLessOne, FixedGap}
 
 -- the number in two bytes from a place on
 abbrev pub word : List ℕ → ℕ → ℕ
@@ -65,7 +65,7 @@ checked [] e = Ok e
 checked (c ∷ cs) e = cond c.applies (Err c.refusal) (checked cs e)
 
 -- the rule of a rule byte and a gap
-abbrev pub rule_of : ℕ → ℕ → Rule
+abbrev pub rule_of : ℕ → ℕ → Rule ℕ
 rule_of rule gap = cond (rule == 0) FullLane (cond (rule == 1) LaneLessOne (FixedGap gap))
 
 -- the entry of a kind and its fields

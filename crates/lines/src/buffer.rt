@@ -1,12 +1,16 @@
 // A buffer for the line that is being read.
 ghost use Rattle.std.specs.Prelude.{◌≡◌, ℕ, List, [], ◌∷◌, ◌++◌, length, take, nat_lt};
 
+use crate::MOST_DIGITS;
 use arrayvec::ArrayVec;
 
-// The first 65 bytes of a line: one more than a line may have, so that a longer one is seen to be too long.
+// The most bytes of a line that are kept: one more than a line may have, so that a longer one is seen to be too long.
+const MOST_KEPT: usize = MOST_DIGITS + 1;
+
+// The first bytes of a line, as many as are kept.
 #[derive(Drop)]
 pub struct LineBuffer {
-    bytes: ArrayVec<u8, 65>,
+    bytes: ArrayVec<u8, MOST_KEPT>,
 }
 
 impl LineBuffer {
@@ -20,7 +24,7 @@ impl LineBuffer {
         LineBuffer { bytes }
     }
 
-    // Takes in the next byte of the line; past the 65th none is kept.
+    // Takes in the next byte of the line; past the most that are kept it is dropped.
     pub fn push(&mut self, byte: u8)
         ensures next { kept self.new ≡ take 65 (kept self.old ++ byte ∷ []) }
         ensures whole { (line : List ℕ) → Keeps self.old line → Keeps self.new (line ++ byte ∷ []) }

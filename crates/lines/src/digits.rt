@@ -3,8 +3,12 @@ ghost use Rattle.std.specs.Prelude.{◌≡◌, ◌*◌, ◌/◌, ◌%◌, ◌<�
 ghost use Rattle.lines.specs.declared.refusal.LineRefusal.TheVariants.{BadDigit};
 ghost use Rattle.lines.specs.Digits.{digit_for, value_of, first_bad, digits, line_bytes};
 
+use crate::MOST_DIGITS;
 use crate::refusal::LineRefusal;
 use arrayvec::ArrayVec;
+
+// The most bytes that a line stands for.
+const MOST_BYTES: usize = MOST_DIGITS / 2;
 
 // The value of a digit, 0 to 9 or A to F; any other byte has none. Two comparisons are faster than a match on the ranges.
 pub fn digit_value(byte: u8) -> Option<u8>
@@ -42,7 +46,7 @@ pub(crate) fn check_digits(line: &[u8]) -> Result<(), LineRefusal>
 }
 
 // The bytes that a line of digits stands for. Other bytes were refused before, so no 0 stands in for one.
-pub(crate) fn decode(line: &[u8]) -> ArrayVec<u8, 32>
+pub(crate) fn decode(line: &[u8]) -> ArrayVec<u8, MOST_BYTES>
     requires even { length line.now % 2 ≡ 0 }
     requires short { length line.now ≤ 64 }
     ensures { result.items ≡ line_bytes line.now }

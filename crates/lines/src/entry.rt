@@ -1,13 +1,8 @@
 // What a line says.
 ghost use Rattle.std.specs.Prelude.{◌≡◌};
 
-// A following rule, as a judging names it.
-#[derive(Clone, Copy, PartialEq, Eq, Debug)]
-pub enum Rule {
-    FullLane,
-    LaneLessOne,
-    FixedGap { gap: u16 },
-}
+// A following rule, as a judging names it: the gap of a fixed one may be too long.
+pub type Rule = yard::rules::Rule<u16>;
 
 // An entry: a kind of line with its fields.
 #[derive(Clone, Copy, PartialEq, Eq, Debug)]

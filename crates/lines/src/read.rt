@@ -9,6 +9,7 @@ use crate::MOST_DIGITS;
 use crate::digits::{check_digits, decode};
 use crate::entry::{Entry, Input, Rule};
 use crate::refusal::LineRefusal;
+use yard::limits::LONGEST_GAP;
 
 // The rule of a rule byte and a gap. A function and no `TryFrom`: the two are fields of a line, and no type of their own.
 fn read_rule(rule: u8, gap: u16) -> Result<Rule, LineRefusal>
@@ -17,14 +18,15 @@ fn read_rule(rule: u8, gap: u16) -> Result<Rule, LineRefusal>
     match (rule, gap) {
         (0x00, 0) => Ok(Rule::FullLane),
         (0x01, 0) => Ok(Rule::LaneLessOne),
-        (0x02, 0..=36000) => Ok(Rule::FixedGap { gap }),
+        (0x02, 0..=LONGEST_GAP) => Ok(Rule::FixedGap { gap }),
         _ => Err(LineRefusal::BadRule),
     }
 }
 
 // The entry of a kind and its fields. The kinds stay bytes: the patterns are the table of the format.
 fn read_fields(bytes: &[u8]) -> Result<Entry, LineRefusal>
-    requires known { (1 ≤ first_byte bytes.now) × (first_byte bytes.now ≤ 6) }
+    requires lowest { 1 ≤ first_byte bytes.now }
+    requires highest { first_byte bytes.now ≤ 6 }
     ensures { result ≡ checked (wrong_length bytes.now ∷ bad_rule bytes.now ∷ []) (entry_of bytes.now) }
 {
     match *bytes {

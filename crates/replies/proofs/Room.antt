@@ -1,9 +1,8 @@
 -- Whether a page has room for a reply, and what then stands in it.
-use Rattle.std.proofs.Common.{◌≡◌, ℕ, ◌+◌, ◌*◌, ◌≤◌, true, false, cond, ltb, List, length, take, drop, is_ok, IfOk, Ok, Err, Result, sym, refl, ap, ◌∙◌, arith}
+use Rattle.std.proofs.Common.{◌≡◌, ℕ, ◌+◌, ◌*◌, ◌≤◌, true, cond, List, length, take, drop, is_ok, IfOk, Ok, Err, Result, refl, arith}
 use Rattle.std.proofs.lemmas.Bool.Decides.{nat_tests}
 use Rattle.lines.specs.Pages.{placing, written}
 use Rattle.lines.specs.declared.refusal.WriteRefusal.{WriteRefusal}
-use Rattle.lines.specs.declared.refusal.WriteRefusal.TheVariants.{ListTooLong, PageTooShort}
 use Rattle.lines.proofs.Hexadecimal.{length_digits}
 use Rattle.lines.proofs.Placing.{placed_there}
 use Rattle.replies.specs.Answers.{Answer, accepted, passed, ring, refused, bytes_of, count, four, line_of, pair, writing}
@@ -30,21 +29,15 @@ reply_size (refused number first second) = omega (arith, length_digits (bytes_of
 
 module _ (page : List ℕ) (at : ℕ) (r : Result ℕ WriteRefusal) (reply : Answer) (few : count reply ≤ 65535) (value : r ≡ writing page at reply) where
   pub reply_placed : r ≡ placing page at (line_of reply)
-  reply_placed = let f : ltb 65535 (count reply) ≡ false = grind (arith, nat_tests) in value ∙ ap (λ t. cond t (Err ListTooLong) (placing page at (line_of reply))) f
+  reply_placed = grind (arith, nat_tests)
 
   -- it finds room where the page has it
   pub reply_room : at + length (line_of reply) ≤ length page → is_ok r ≡ true
-  reply_room h =
-      let f : ltb (length page) (at + length (line_of reply)) ≡ false = grind (arith, nat_tests) in
-      ap is_ok reply_placed ∙ ap (λ t. is_ok {T = ℕ} {E = WriteRefusal} (cond t (Err PageTooShort) (Ok (length (line_of reply))))) f
+  reply_room h = grind (arith, nat_tests)
 
   -- and is then within the page
   pub reply_within : IfOk r (λ n. at + n ≤ length page)
-  reply_within =
-      made_by r (λ n. at + n ≤ length page)
-      (λ n ok.
-      let p = sym reply_placed ∙ ok in
-      grind (arith, nat_tests))
+  reply_within = grind (arith, nat_tests)
 
   -- where it stands
   pub reply_there : (page' : List ℕ) → page' ≡ cond (is_ok r) (written page at (line_of reply)) page → (n : ℕ) → r ≡ Ok n → take n (drop at page') ≡ line_of reply

@@ -1,9 +1,9 @@
 -- A reply is understood as what it says.
-use Rattle.std.proofs.Common.{◌≡◌, ℕ, suc, ◌+◌, ◌*◌, ◌/◌, ◌%◌, ◌^◌, ◌<◌, cond, ltb, List, [], ◌∷◌, ◌++◌, length, Ok, Err, Result, sym, refl, ap, ◌∙◌, subst, arith}
+use Rattle.std.proofs.Common.{◌≡◌, ℕ, ◌+◌, ◌*◌, ◌/◌, ◌%◌, ◌^◌, ◌<◌, cond, ltb, List, [], ◌∷◌, ◌++◌, length, Ok, Err, Result, sym, refl, ap, ◌∙◌, subst, arith}
 use Rattle.std.specs.List.{flat_map, All}
-use Rattle.std.proofs.lemmas.List.{drop_at}
-use Rattle.std.proofs.lemmas.Bool.{ne_eqb}
 use Rattle.std.proofs.lemmas.Bool.Decides.{nat_tests}
+use Rattle.std.proofs.lemmas.Grind.{common_steps}
+use Rattle.std.proofs.lemmas.List.Elements.{All-tail}
 use Rattle.lines.specs.declared.refusal.WriteRefusal.{WriteRefusal}
 use Rattle.lines.specs.declared.refusal.WriteRefusal.TheVariants.{ListTooLong}
 use Rattle.replies.specs.Answers.{Answer, accepted, passed, ring, refused, pair, four, bytes_of}
@@ -13,10 +13,8 @@ use Rattle.replies.specs.Questions.{Question, entering, judging, Suits, front_tw
 numbers_joined : (f : ℕ → List ℕ) (front : List ℕ → ℕ) (size : ℕ) → ((x : ℕ) → length (f x) ≡ size) → (xs : List ℕ) → All (λ x. (rest : List ℕ) → front (f x ++ rest) ≡ x) xs → numbers size front (length xs) (flat_map f xs) ≡ xs
 numbers_joined f front size sized [] h = refl
 numbers_joined f front size sized (x ∷ xs) h =
-    let q = numbers_joined f front size sized xs (λ k d l. h (suc k) d (omega arith)) in
-    let b = h 0 x (omega arith) (flat_map f xs) in
-    let d = drop_at (f x) (flat_map f xs) size (sized x) in
-    cc
+    let rest = numbers_joined f front size sized xs (All-tail (λ x. (rest : List ℕ) → front (f x ++ rest) ≡ x) x xs h) in
+    grind (arith, common_steps, sized x, h 0 x (omega arith) (flat_map f xs))
 
 two_back : (n : ℕ) → n < 2 ^ 16 → n / 256 % 256 * 256 + n % 256 ≡ n
 two_back n h = omega arith
@@ -42,8 +40,7 @@ ring_back judging stops h k s =
 
 pub refused_back : (q : Question) (number first second : ℕ) → first < 2 ^ 16 → second < 2 ^ 16 → Suits q (refused number first second) → understood q (bytes_of (refused number first second)) ≡ refused number first second
 unfolding understood
-refused_back entering number first second f s h = rw (ne_eqb number 0 h.0, ne_eqb number 17 h.1, two_back first f, two_back second s)
-refused_back judging number first second f s h = rw (ne_eqb number 0 h.0, ne_eqb number 17 h.1, two_back first f, two_back second s)
+refused_back q number first second f s h = grind (arith, nat_tests, two_back)
 
 -- the bytes of a reply were written for an answer that is that reply
 pub told : (q : Question) (answer reply : Answer) (bs : List ℕ) → answer ≡ reply → bs ≡ bytes_of reply → (Suits q reply → understood q (bytes_of reply) ≡ reply) → Suits q answer → understood q bs ≡ answer

@@ -1,6 +1,6 @@
 // Lists of numbers in a reply.
 ghost use Rattle.std.specs.Prelude.{◌≡◌, ℕ, ◌*◌, ◌<◌, ◌≤◌, List, ◌++◌, length, take, drop, is_ok, if◌then◌else◌, Ok, Err, nat_lt};
-ghost use Rattle.std.specs.List.{flat_map, All, AllByRecursion};
+ghost use Rattle.std.specs.List.{flat_map, All};
 ghost use Rattle.lines.specs.declared.refusal.WriteRefusal.TheVariants.{ListTooLong};
 ghost use Rattle.lines.specs.Digits.{digits, line_bytes};
 ghost use Rattle.lines.specs.Pages.{written, placing};
@@ -27,7 +27,7 @@ pub(crate) trait Listed<const SIZE: usize> {
 
     ghost short: { SIZE ≤ 4 };
 
-    ghost small: { (x : Self) → AllByRecursion (λ b. b < 256) (bytes x) };
+    ghost small: { (x : Self) → All (λ b. b < 256) (bytes x) };
 }
 
 // A stop, in two bytes.
@@ -72,7 +72,7 @@ fn write_numbers<N: Listed<SIZE>, const SIZE: usize>(
     requires room { 2 * length (flat_map N.Listed.bytes numbers.now) ≤ length part.old }
     ensures value { result ≡ Ok (2 * length (flat_map N.Listed.bytes numbers.now)) }
     ensures after { part.new ≡ digits (flat_map N.Listed.bytes numbers.now) ++ drop (2 * length (flat_map N.Listed.bytes numbers.now)) part.old }
-    ensures back { All (λ x. (rest : List ℕ) → N.Listed.front (N.Listed.bytes x ++ rest) ≡ x) numbers.now }
+    ensures each { All (λ x. (rest : List ℕ) → N.Listed.front (N.Listed.bytes x ++ rest) ≡ x) numbers.now }
 {
     let mut at = 0;
     for number in numbers {
@@ -90,7 +90,8 @@ pub(crate) fn write_list<N: Listed<SIZE>, const SIZE: usize>(
 ) -> Result<usize, WriteRefusal>
     ensures value { result ≡ (if nat_lt 65535 (length numbers.now) then Err ListTooLong else placing page.old at (digits (listed code N.Listed.bytes numbers.now))) }
     ensures after { page.new ≡ (if is_ok result then written page.old at (digits (listed code N.Listed.bytes numbers.now)) else page.old) }
-    ensures back { (n : ℕ) → result ≡ Ok n → (line_bytes (take n (drop at page.new)) ≡ listed code N.Listed.bytes numbers.now) × All (λ x. (rest : List ℕ) → N.Listed.front (N.Listed.bytes x ++ rest) ≡ x) numbers.now }
+    ensures back { (n : ℕ) → result ≡ Ok n → line_bytes (take n (drop at page.new)) ≡ listed code N.Listed.bytes numbers.now }
+    ensures each { (n : ℕ) → result ≡ Ok n → All (λ x. (rest : List ℕ) → N.Listed.front (N.Listed.bytes x ++ rest) ≡ x) numbers.now }
 {
     let Ok(count) = u16::try_from(numbers.len()) else {
         return Err(WriteRefusal::ListTooLong);

@@ -5,7 +5,6 @@ use Rattle.std.proofs.lemmas.List.{append_assoc, append-nil}
 use Rattle.yard_file.specs.Lines.{lines_of}
 use Rattle.yard_file.specs.Splits.{Split}
 use Rattle.yard_file.proofs.Split.{split_lines}
-use Rattle.lines.proofs.Takes.{take_front}
 use Rattle.lane_yard.specs.declared.lane.Lane.{Lane}
 use Rattle.lines.specs.Reading.{reading}
 use Rattle.lines.specs.declared.entry.Entry.{Entry}
@@ -16,16 +15,19 @@ use Rattle.yard_file.specs.Files.{Ended}
 use Rattle.yard_file.specs.Laying.{earlier, first_refusal, lane_said, lanes_said, refused_before}
 use Rattle.yard_file.specs.declared.files.YardFile.{YardFile}
 
+-- what is left out does not come back
+more_taken : {X : Type 0} (n : ℕ) (xs kept kept' more : List X) → kept' ≡ take n (kept ++ more) → kept ≡ take n xs → kept' ≡ take n (xs ++ more)
+more_taken n xs kept kept' more next is = grind (arith, common_steps)
+
 -- one lane more, after lanes that are kept up to the limit
 pub kept_pushed : {X : Type 0} (xs kept kept' : List X) (x : X) → kept' ≡ take 8193 (kept ++ x ∷ []) → kept ≡ take 8193 xs → kept' ≡ take 8193 (xs ++ x ∷ [])
-kept_pushed {X = X} xs kept kept' x more is =
-    rw (more, is) (take_front 8193 xs (x ∷ []))
+kept_pushed xs kept kept' x more is = more_taken 8193 xs kept kept' (x ∷ []) more is
 
 pub kept_none : {X : Type 0} (xs : List X) → take 8193 xs ≡ take 8193 (xs ++ [])
 kept_none xs = simp append-nil
 
 -- an entry that is no lane says none
-pub none_said : (entry : Entry) → ((from to time : ℕ) → entry ≡ LaneEntry from to time → ⊥) → lane_said (Ok entry) ≡ []
+pub none_said : (entry : Entry) → ((from to time : ℕ) → ¬ (entry ≡ LaneEntry from to time)) → lane_said (Ok entry) ≡ []
 none_said entry no_lane = search rules
 
 refusal_more : (read more : Result Entry LineRefusal) (rest next : Option LineRefusal) → next ≡ earlier rest more → refused_before read next ≡ earlier (refused_before read rest) more

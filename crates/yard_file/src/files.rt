@@ -5,19 +5,22 @@ ghost use Rattle.lines.specs.Buffers.{Keeps};
 use crate::refusal::FileRefusal;
 use bounded::BoundedVec;
 use lane_yard::lane::Lane;
-use lane_yard::yards::LaneYard;
+use lane_yard::yards::{LaneYard, MOST_LANES};
 use lines::buffer::LineBuffer;
 use lines::entry::{Entry, Input};
 use lines::read::read_entry;
 use lines::refusal::LineRefusal;
 use std::alloc::{AllocError, Global};
 
-// What has been read of the file of a yard. It keeps at most 8,193 lanes, one more than may be laid, the first refusal of
-// a line, and the start of one line, so that a file of any size costs the same.
+// The most lanes that are kept: one more than may be laid, so that too many are seen to be too many.
+const MOST_KEPT: usize = MOST_LANES + 1;
+
+// What has been read of the file of a yard. It keeps so many lanes, the first refusal of a line, and the start of one
+// line, so that a file of any size costs the same.
 #[derive(Drop)]
 pub struct YardFile {
     line: LineBuffer,
-    lanes: BoundedVec<Lane, 8193>,
+    lanes: BoundedVec<Lane, MOST_KEPT>,
     refusal: Option<LineRefusal>,
 }
 
@@ -55,7 +58,8 @@ impl YardFile {
 
     // Ends the line that has begun.
     fn end_line(&mut self)
-        ensures { (ended : List (List ℕ)) (begun : List ℕ) → Ended self.old ended → Keeps self.old.line begun → Ended self.new (ended ++ begun ∷ []) × Keeps self.new.line [] }
+        ensures ended { (ended : List (List ℕ)) (begun : List ℕ) → Ended self.old ended → Keeps self.old.line begun → Ended self.new (ended ++ begun ∷ []) }
+        ensures line { Keeps self.new.line [] }
     {
         let read = read_entry(self.line.line(), Input::Yard);
         self.note(read);

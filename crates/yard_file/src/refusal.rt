@@ -1,5 +1,5 @@
 // Why the file of a yard is refused.
-ghost use Rattle.std.specs.Prelude.{◌≡◌, ◌≤◌, true, length, is_ok, IfOk, if◌then◌else◌};
+ghost use Rattle.std.specs.Prelude.{◌≡◌, ◌≤◌, length, is_ok, IfOk, IsOk, if◌then◌else◌};
 ghost use Rattle.lines.specs.Pages.{written};
 ghost use Rattle.replies.specs.Answers.{line_of, refused, writing};
 ghost use Rattle.replies.specs.Replies.{answer_of};
@@ -44,7 +44,7 @@ impl FileRefusal {
     pub fn write(&self, page: &mut [u8]) -> Result<usize, WriteRefusal>
         ensures value { result ≡ writing page.old 0 (refused (number_of self.now) (told_by self.now) 0) }
         ensures after { page.new ≡ (if is_ok result then written page.old 0 (line_of (refused (number_of self.now) (told_by self.now) 0)) else page.old) }
-        ensures room { 10 ≤ length page.old → is_ok result ≡ true }
+        ensures room { 10 ≤ length page.old → IsOk result }
         ensures within { IfOk result (λ n. n ≤ length page.old) }
     {
         Reply::from(*self).write(page, 0)

@@ -7,8 +7,8 @@ use Rattle.lines.proofs.Readings.{any_saying, long_line, bad_line, odd_line, eve
 use Rattle.lines.proofs.RoundTrip.{exactly, of_kept}
 use Rattle.lines.proofs.read.read_entry.Goals as goal
 
-pub returns-then-line-gt64 : goal.returns-then-line-gt64
-returns-then-line-gt64 c =
+pub returns-then-line-gt-MOST_DIGITS : goal.returns-then-line-gt-MOST_DIGITS
+returns-then-line-gt-MOST_DIGITS c =
     let input = c.args.input in
     let line = c.args.line.now in
     let s = long_line input line (search rules) in

@@ -40,5 +40,6 @@ returns g c =
     record {
       value = value ∙ counting f size sized code xs page at few;
       after = after;
-      back = λ k h. (ap line_bytes (placed_there page (digits (listed code f xs)) _ at k _ value after h) ∙ bytes_digits (listed code f xs) small, c.write_numbers.ensures.back);
+      back = λ k h. ap line_bytes (placed_there page (digits (listed code f xs)) _ at k _ value after h) ∙ bytes_digits (listed code f xs) small;
+      each = λ _ _. c.write_numbers.ensures.each;
     }

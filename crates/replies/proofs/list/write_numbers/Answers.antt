@@ -1,4 +1,4 @@
-use Rattle.std.proofs.Common.{◌≡◌, ℕ, ◌*◌, List, ◌++◌, length, subst, arith, rules}
+use Rattle.std.proofs.Common.{◌≡◌, ℕ, ◌*◌, List, ◌++◌, length, subst, rules}
 use Rattle.std.proofs.lemmas.List.Elements.{All-more}
 use Rattle.lines.specs.Digits.{digits}
 use Rattle.lines.specs.Pages.{placing}
@@ -20,7 +20,7 @@ loop-number-preserved g c =
     record {
       at = cc;
       part = cc;
-      back = All-more P xs i x (search rules) c.loop-number.invariant.back (subst P c.number-item.is c.to_bytes.ensures.back);
+      each = All-more P xs i x (search rules) c.loop-number.invariant.each (subst P c.number-item.is c.to_bytes.ensures.back);
     }
 
 pub returns-in_err-at : goal.returns-in_err-at
@@ -30,5 +30,4 @@ returns-in_err-at g c =
     let value : c.write_bytes.result ≡ placing c.loop-number.part c.loop-number.at (digits (f x)) = cc in
     let s = step f c.args.numbers.now c.loop-number.number-index x c.args.part.now c.loop-number.part c.write_bytes.new.page c.loop-number.at c.write_bytes.result (search rules) c.number-item.is c.requires.room c.loop-number.invariant.at c.loop-number.invariant.part value (search rules) in
     let k = c.in_err-at.was in
-    let z : ◌≡◌ {A = ℕ} 0 1 = cc in
-    absurd (omega arith)
+    absurd (cc)

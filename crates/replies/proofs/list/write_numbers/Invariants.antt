@@ -8,5 +8,5 @@ invariant-loop-number g l =
     record {
       at : l.at ≡ 2 * length (flat_map g.N.Listed.bytes (take l.number-index l.numbers));
       part : l.part ≡ digits (flat_map g.N.Listed.bytes (take l.number-index l.numbers)) ++ drop l.at l.initial.part;
-      back : All (λ x. (rest : List ℕ) → g.N.Listed.front (g.N.Listed.bytes x ++ rest) ≡ x) (take l.number-index l.numbers);
+      each : All (λ x. (rest : List ℕ) → g.N.Listed.front (g.N.Listed.bytes x ++ rest) ≡ x) (take l.number-index l.numbers);
     }

@@ -15,13 +15,13 @@ pub returns-in-Passed-clause-back : goal.returns-in-Passed-clause-back
 returns-in-Passed-clause-back c =
     let xs = c.in-Passed.arrivals.now in
     let w = c.write_list.ensures in
-    λ n q suits h. told q _ (passed xs) _ (ap answer_of c.in-Passed.is) (w.back n h).0 (passed_back q xs (few (length xs) _ n (sym w.value ∙ h)) (w.back n h).1) suits
+    λ n q suits h. told q _ (passed xs) _ (ap answer_of c.in-Passed.is) (w.back n h) (passed_back q xs (few (length xs) _ n (sym w.value ∙ h)) (w.each n h)) suits
 
 pub returns-in-Ring-clause-back : goal.returns-in-Ring-clause-back
 returns-in-Ring-clause-back c =
     let xs = c.in-Ring.stops.now in
     let w = c.write_list-in-Ring.ensures in
-    λ n q suits h. told q _ (ring xs) _ (ap answer_of c.in-Ring.is) (w.back n h).0 (ring_back q xs (few (length xs) _ n (sym w.value ∙ h)) (w.back n h).1) suits
+    λ n q suits h. told q _ (ring xs) _ (ap answer_of c.in-Ring.is) (w.back n h) (ring_back q xs (few (length xs) _ n (sym w.value ∙ h)) (w.each n h)) suits
 
 pub returns-in-Refused-clause-back : goal.returns-in-Refused-clause-back
 returns-in-Refused-clause-back c =

@@ -6,8 +6,8 @@ use Rattle.yard_file.proofs.files.YardFile.end.Goals as goal
 pub returns-then-is_started : goal.returns-then-is_started
 returns-then-is_started c bytes r =
     let started = c.if-is_started.ensures.whole r.begun r.line in
-    let more = c.end_line.ensures r.ended r.begun r.kept r.line in
-    rw (← all_lines_more bytes r.ended r.begun r.split (ltb-true 0 (length r.begun) (sym started))) more.0
+    let more = c.end_line.ensures.ended r.ended r.begun r.kept r.line in
+    rw (← all_lines_more bytes r.ended r.begun r.split (ltb-true 0 (length r.begun) (sym started))) more
 
 pub returns-else-is_started : goal.returns-else-is_started
 returns-else-is_started c bytes r =

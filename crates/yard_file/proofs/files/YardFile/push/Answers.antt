@@ -4,8 +4,8 @@ use Rattle.yard_file.proofs.files.YardFile.push.Goals as goal
 
 pub returns-then-byte-eq10 : goal.returns-then-byte-eq10
 returns-then-byte-eq10 c bytes r =
-    let more = c.end_line.ensures r.ended r.begun r.kept r.line in
-    rw c.if-byte-eq10.true (record { ended = r.ended ++ r.begun ∷ []; begun = []; split = split_end bytes r.ended r.begun r.split; kept = more.0; line = more.1 })
+    let more = c.end_line.ensures.ended r.ended r.begun r.kept r.line in
+    rw c.if-byte-eq10.true (record { ended = r.ended ++ r.begun ∷ []; begun = []; split = split_end bytes r.ended r.begun r.split; kept = more; line = c.end_line.ensures.line })
 
 pub returns-else-byte-eq10 : goal.returns-else-byte-eq10
 returns-else-byte-eq10 c bytes r = record {
