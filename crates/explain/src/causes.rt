@@ -10,14 +10,16 @@ use crate::cause::Cause;
 use crate::records::{Records, reversed};
 use keyed::find;
 use lines::entry::Entry;
+use sheet::limits::{MOST_CARRIERS, MOST_PRECEDENCES, MOST_STOPS};
 use sheet::records::{Goal, Order, Start};
 use sheet::refusal::EntryRefusal;
+use yard::limits::HIGHEST_PLACE;
 
 // The cause that the place is too high, where it is.
 fn too_high(place: u16) -> Option<Cause>
     ensures { SomeIff result (4095 < place) (PlaceTooHigh place) }
 {
-    (place > 4095).then_some(Cause::PlaceTooHigh { place })
+    (place > HIGHEST_PLACE).then_some(Cause::PlaceTooHigh { place })
 }
 
 impl Records<'_> {
@@ -44,8 +46,10 @@ impl Records<'_> {
     {
         match why {
             EntryRefusal::PlaceTooHigh => too_high(start).or(too_high(goal)),
-            EntryRefusal::LimitReached if self.carriers.len() >= 64 => Some(Cause::TooManyCarriers),
-            EntryRefusal::LimitReached if self.stops.len() >= 1024 => Some(Cause::TooManyStops),
+            EntryRefusal::LimitReached if self.carriers.len() >= MOST_CARRIERS => {
+                Some(Cause::TooManyCarriers)
+            }
+            EntryRefusal::LimitReached if self.stops.len() >= MOST_STOPS => Some(Cause::TooManyStops),
             EntryRefusal::EndTaken => self.end_taken(start, goal),
             _ => None,
         }
@@ -78,7 +82,7 @@ impl Records<'_> {
                     stop,
                 })
             }
-            EntryRefusal::LimitReached if self.stops.len() >= 1024 => Some(Cause::TooManyStops),
+            EntryRefusal::LimitReached if self.stops.len() >= MOST_STOPS => Some(Cause::TooManyStops),
             _ => None,
         }
     }
@@ -184,7 +188,7 @@ impl Records<'_> {
             EntryRefusal::AlreadyDecided => {
                 self.decided(order).or(self.decided(reversed(order)))
             }
-            EntryRefusal::LimitReached if self.precedences.len() >= 2048 => {
+            EntryRefusal::LimitReached if self.precedences.len() >= MOST_PRECEDENCES => {
                 Some(Cause::TooManyPrecedences)
             }
             EntryRefusal::NothingToStrike => self.not_standing(order),
