@@ -6,11 +6,10 @@ use Rattle.judge.specs.Settling.{Pages}
 use Rattle.judge.specs.Shown.{Concluded, Concludes, room_of}
 use Rattle.judge.specs.declared.refusal.JudgeRefusal.{JudgeRefusal}
 use Rattle.plan.specs.Plans.{Gaps, Lanes}
-use Rattle.replies.specs.Answers.{Answer as Reply}
 use Rattle.sheet.specs.Book.{Book}
 use Rattle.session.specs.declared.answer.Answer.{Answer}
 use Rattle.session.specs.declared.answer.Refusal.{Refusal}
-use Rattle.session.specs.Answers.{Judges, Ruled, judged_as}
+use Rattle.session.specs.Answers.{Ruled, judged_as}
 use Rattle.session.specs.Replies.{JudgingReplied, setting_of}
 use Rattle.session.specs.Rules.{largest_of}
 use Rattle.session.specs.Writing.{said_by}
