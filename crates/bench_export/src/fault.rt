@@ -15,7 +15,7 @@ pub(crate) enum Fault {
     Lay { why: LayRefusal },
     // The grid cannot be set out.
     Grid { why: GridRefusal },
-    // The sheet turns an entry away.
+    // The sheet refuses an entry.
     Entry { why: EntryRefusal },
     // The sheet does not pass.
     Judge { why: JudgeRefusal },

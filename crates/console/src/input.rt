@@ -47,7 +47,8 @@ pub(crate) fn for_each_chunk<F: FnMut(&[u8]) -> io::Result<()>>(
     Ok(())
 }
 
-// Gives the taker every line of the input. What is said of the lines so far is written out before more input is waited for.
+// Gives the taker every line of the input. What is said of the lines so far is written out before the program waits for
+// more input.
 pub fn take_lines(
     input: &mut impl Read,
     taker: &mut impl TakesLines,

@@ -14,8 +14,8 @@ fn put_reply(reply: &[u8], out: &mut impl Write) -> io::Result<()> {
     out.write_all(b"\n")
 }
 
-// A session that answers each line, with one page for its replies, which has room for every one: a page of fixed size, so
-// that no line needs memory.
+// A session that answers each line, with one page for its replies, which has room for every one: a page of fixed size,
+// so that no line needs memory.
 #[derive(Drop)]
 struct Replier {
     session: Session,

@@ -42,7 +42,8 @@ impl fmt::Display for LaneFault {
 
 // What is wrong with a lane outside the limits. The two places are asked for one by one, as one of them is named.
 fn limit_fault(lane: Lane, before: Option<Lane>) -> Option<LaneFault>
-    ensures { IfSome result (λ fault. FaultOf lane before fault × (fault_number fault ≡ 18)) }
+    ensures fact { IfSome result (FaultOf lane before) }
+    ensures explains { IfSome result (λ fault. fault_number fault ≡ 18) }
 {
     let Lane { from, to, time } = lane;
     if from > HIGHEST_PLACE {
@@ -60,7 +61,8 @@ fn limit_fault(lane: Lane, before: Option<Lane>) -> Option<LaneFault>
 
 // What is wrong with a lane that was refused, given the one before it.
 pub(crate) fn lane_fault_of(lane: Lane, before: Option<Lane>, why: LayRefusal) -> Option<LaneFault>
-    ensures { IfSome result (λ fault. FaultOf lane before fault × (fault_number fault ≡ number_of why)) }
+    ensures fact { IfSome result (FaultOf lane before) }
+    ensures explains { IfSome result (λ fault. fault_number fault ≡ number_of why) }
 {
     match why {
         LayRefusal::BadLane { .. } => limit_fault(lane, before),
