@@ -78,11 +78,15 @@ pub(crate) enum Cause {
     },
 }
 
+// One table of texts: in parts, each part would need an arm for the causes of the others.
 impl fmt::Display for Cause {
     fn fmt<W: fmt::Write>(&self, f: &mut fmt::Formatter<W>) -> fmt::Result {
         match *self {
             Cause::TooManyCarriers => {
-                write!(f, "the sheet has {MOST_CARRIERS} carriers, and takes no more")
+                write!(
+                    f,
+                    "the sheet has {MOST_CARRIERS} carriers, and takes no more"
+                )
             }
             Cause::TooManyStops => {
                 write!(f, "the sheet has {MOST_STOPS} stops, and takes no more")

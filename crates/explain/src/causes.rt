@@ -51,7 +51,9 @@ impl Records<'_> {
             EntryRefusal::LimitReached if self.carriers.len() >= MOST_CARRIERS => {
                 Some(Cause::TooManyCarriers)
             }
-            EntryRefusal::LimitReached if self.stops.len() >= MOST_STOPS => Some(Cause::TooManyStops),
+            EntryRefusal::LimitReached if self.stops.len() >= MOST_STOPS => {
+                Some(Cause::TooManyStops)
+            }
             EntryRefusal::EndTaken => self.end_taken(start, goal),
             _ => None,
         }
@@ -85,7 +87,9 @@ impl Records<'_> {
                     stop,
                 })
             }
-            EntryRefusal::LimitReached if self.stops.len() >= MOST_STOPS => Some(Cause::TooManyStops),
+            EntryRefusal::LimitReached if self.stops.len() >= MOST_STOPS => {
+                Some(Cause::TooManyStops)
+            }
             _ => None,
         }
     }

@@ -52,6 +52,7 @@ pub(crate) enum LineFault {
     },
 }
 
+// One table of texts: in parts, each part would need an arm for the faults of the others.
 impl fmt::Display for LineFault {
     fn fmt<W: fmt::Write>(&self, f: &mut fmt::Formatter<W>) -> fmt::Result {
         match *self {
