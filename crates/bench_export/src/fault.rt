@@ -15,7 +15,7 @@ pub(crate) enum Fault {
     Lay { why: LayRefusal },
     // The grid cannot be set out.
     Grid { why: GridRefusal },
-    // The sheet turns an entry away.
+    // The sheet refuses an entry.
     Entry { why: EntryRefusal },
     // The sheet does not pass.
     Judge { why: JudgeRefusal },
@@ -65,6 +65,9 @@ impl Fault {
     }
 }
 
+// What is told of a fault counts once, and its number so many times: a pass has fewer stops, and a fault tells less.
+const NUMBER_UNIT: u32 = 65536;
+
 // One number for an outcome: the number of stops of a pass, or 65,536 times one more than the refusal's number, plus
 // what it tells first.
 pub(crate) fn code_of(outcome: Result<u16, Fault>) -> u32
@@ -74,7 +77,7 @@ pub(crate) fn code_of(outcome: Result<u16, Fault>) -> u32
         Ok(stops) => u32::from(stops),
         Err(fault) => {
             let (number, told) = fault.told();
-            65536 * (u32::from(number) + 1) + u32::from(told)
+            NUMBER_UNIT * (u32::from(number) + 1) + u32::from(told)
         }
     }
 }

@@ -9,7 +9,7 @@ use judge::judging::judge;
 use lane_yard::yards::LaneYard;
 use sheet::sheets::Sheet;
 use std::alloc::Global;
-use yard::rules::{FixedGap, FullLane, LaneLessOne};
+use yard::rules::{FixedGap, FullLane, LaneLessOne, Rule};
 use yard::{FollowingRule, Yard};
 
 // A sheet that is measured: its entries, the rule of its judgings, and how often it is entered and judged. The two pages
@@ -19,10 +19,18 @@ struct Run<'a> {
     // Fours: kind, then the fields in the order of a line, then 0 where there are fewer than three.
     entries: &'a [u16],
     sheets: u32,
-    // The number of the rule and its gap, as a line of a judging has them.
-    rule: u16,
-    gap: u16,
+    rule: Rule<u16>,
     judgings: u32,
+}
+
+// The rule of a number and a gap, as a line of a judging has them. The C interface has numbers; every other one is that
+// of a fixed gap.
+fn rule_of(number: u16, gap: u16) -> Rule<u16> {
+    match number {
+        0 => Rule::FullLane,
+        1 => Rule::LaneLessOne,
+        _ => Rule::FixedGap { gap },
+    }
 }
 
 impl Run<'_> {
@@ -68,10 +76,10 @@ impl Run<'_> {
     {
         let sheet = self.sheet(heap)?;
         match self.rule {
-            0 => self.judge_often(&sheet, yard, &FullLane, timetable, ring),
-            1 => self.judge_often(&sheet, yard, &LaneLessOne, timetable, ring),
-            _ => {
-                let fixed = FixedGap::try_from(self.gap).unwrap_or(FixedGap::new());
+            Rule::FullLane => self.judge_often(&sheet, yard, &FullLane, timetable, ring),
+            Rule::LaneLessOne => self.judge_often(&sheet, yard, &LaneLessOne, timetable, ring),
+            Rule::FixedGap { gap } => {
+                let fixed = FixedGap::try_from(gap).unwrap_or(FixedGap::new());
                 self.judge_often(&sheet, yard, &fixed, timetable, ring)
             }
         }
@@ -110,8 +118,7 @@ pub extern "C" fn vozhdeka_judge_lanes(
     let run = Run {
         entries,
         sheets,
-        rule,
-        gap,
+        rule: rule_of(rule, gap),
         judgings,
     };
     let yard = lay(heap, lanes, layings);
@@ -153,8 +160,7 @@ pub extern "C" fn vozhdeka_judge_grid(
     let run = Run {
         entries,
         sheets,
-        rule,
-        gap,
+        rule: rule_of(rule, gap),
         judgings,
     };
     let yard = set_out(heap, plan, closed);

@@ -34,7 +34,7 @@ fn enter(sheet: &mut Sheet, entry: &[u16; 4]) -> Result<u16, EntryRefusal> {
     }
 }
 
-// A sheet with all entries; refuses by the first that the sheet turns away.
+// A sheet with all entries; refuses by the first that the sheet refuses.
 pub(crate) fn fill(heap: Global, entries: &[[u16; 4]]) -> Result<Sheet, Fault> {
     let mut sheet = Sheet::open(heap)?;
     for entry in entries {

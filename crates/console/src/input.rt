@@ -9,7 +9,7 @@ pub trait TakesLines {
     fn take_line(&mut self, line: &[u8], out: &mut impl Write) -> io::Result<()>;
 }
 
-// Takes bytes of the input, and hands on each line that ends in them.
+// Takes bytes of the input, and gives the taker each line that ends in them.
 // Byte by byte: parts between newlines would need a loop within the loop to go into the buffer.
 fn take_bytes(
     bytes: &[u8],
@@ -47,7 +47,8 @@ pub(crate) fn for_each_chunk<F: FnMut(&[u8]) -> io::Result<()>>(
     Ok(())
 }
 
-// Hands on every line of the input. What is said of the lines so far is written out before more input is waited for.
+// Gives the taker every line of the input. What is said of the lines so far is written out before the program waits for
+// more input.
 pub fn take_lines(
     input: &mut impl Read,
     taker: &mut impl TakesLines,

@@ -2,6 +2,7 @@
 use crate::files::load_yard;
 use crate::input::{TakesLines, take_lines};
 use lane_yard::yards::LaneYard;
+use replies::LONGEST_REPLY;
 use session::answer::Refusal;
 use session::sessions::{Session, write_refusal};
 use std::io;
@@ -13,12 +14,12 @@ fn put_reply(reply: &[u8], out: &mut impl Write) -> io::Result<()> {
     out.write_all(b"\n")
 }
 
-// A session that answers each line, with one page for its replies, which has room for every one: a page of fixed size, so
-// that no line wants memory.
+// A session that answers each line, with one page for its replies, which has room for every one: a page of fixed size,
+// so that no line needs memory.
 #[derive(Drop)]
 struct Replier {
     session: Session,
-    page: [u8; 8198],
+    page: [u8; LONGEST_REPLY],
 }
 
 impl TakesLines for Replier {
@@ -44,7 +45,7 @@ pub fn run(rt: &HostRuntime) -> io::Result<()> {
             let session = Session::open(rt.alloc(), yard)?;
             let mut replier = Replier {
                 session,
-                page: [0; 8198],
+                page: [0; LONGEST_REPLY],
             };
             take_lines(&mut rt.stdin(), &mut replier, &mut out)?;
         }

@@ -1,4 +1,4 @@
-// The programs' dealings with the outside: the file of the yard, standard input and standard output.
+// What the programs read and write: the file of the yard, standard input and standard output.
 #![tactic(auto)]
 
 pub mod files;

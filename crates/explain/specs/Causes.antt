@@ -80,12 +80,12 @@ OrderCause lists first second place (cause.AtGoal c goal) = ⊥
 OrderCause lists first second place (PlaceTooHigh p) = ⊥
 OrderCause lists first second place (OnRoute c p k) = ⊥
 OrderCause lists first second place (SameCarrier c) = (c ≡ first) × (c ≡ second)
-OrderCause lists first second place (NotOnRoute c p) = ((c ≡ first) ⊎ (c ≡ second)) × (p ≡ place) × ((k : ℕ) → Visits lists.stops c p k → ⊥)
+OrderCause lists first second place (NotOnRoute c p) = ((c ≡ first) ⊎ (c ≡ second)) × (p ≡ place) × ((k : ℕ) → ¬ Visits lists.stops c p k)
 OrderCause lists first second place (FirstsGoal c p) = (c ≡ first) × (p ≡ place) × (c < length lists.carriers) × ((slice_index_or lists.carriers c no_carrier).goal ≡ p)
 OrderCause lists first second place (SecondsStart c p) = (c ≡ second) × (p ≡ place) × (c < length lists.carriers) × ((slice_index_or lists.carriers c no_carrier).start ≡ p)
 OrderCause lists first second place (Decided a b p) = (((a ≡ first) × (b ≡ second)) ⊎ ((a ≡ second) × (b ≡ first))) × (p ≡ place) × ((k : ℕ) × Orders lists.precedences a b p k)
-OrderCause lists first second place (NoPrecedence a b p) = (a ≡ first) × (b ≡ second) × (p ≡ place) × ((k : ℕ) → Orders lists.precedences a b p k → ⊥) × ((k : ℕ) → Orders lists.precedences b a p k → ⊥)
-OrderCause lists first second place (OtherWayRound a b p) = (a ≡ second) × (b ≡ first) × (p ≡ place) × ((k : ℕ) × Orders lists.precedences a b p k) × ((k : ℕ) → Orders lists.precedences b a p k → ⊥)
+OrderCause lists first second place (NoPrecedence a b p) = (a ≡ first) × (b ≡ second) × (p ≡ place) × ((k : ℕ) → ¬ Orders lists.precedences a b p k) × ((k : ℕ) → ¬ Orders lists.precedences b a p k)
+OrderCause lists first second place (OtherWayRound a b p) = (a ≡ second) × (b ≡ first) × (p ≡ place) × ((k : ℕ) × Orders lists.precedences a b p k) × ((k : ℕ) → ¬ Orders lists.precedences b a p k)
 
 -- why an entry is refused
 abbrev pub CauseOf : Lists → Entry → Cause → Type 0

@@ -1,5 +1,5 @@
 -- What the cause of a refused judging says: a fact of the sheet and the yard, about what the refusal tells.
-use Rattle.std.specs.Prelude.{◌≡◌, ℕ, ◌<◌, List, length, Some, None, Option, slice_index_or}
+use Rattle.std.specs.Prelude.{◌≡◌, ◌≢◌, ℕ, ◌<◌, List, length, Some, None, Option, slice_index_or}
 use Rattle.sheet.specs.declared.records.Carrier.{Carrier}
 use Rattle.sheet.specs.declared.records.Stop.{Stop}
 use Rattle.sheet.specs.declared.records.Precedence.{Precedence}
@@ -17,7 +17,7 @@ pub record ShortOfGoal (carriers : List Carrier) (carrier stop place goal : ℕ)
   pub latest : (slice_index_or carriers carrier no_carrier).last_stop ≡ stop
   pub stands : (slice_index_or carriers carrier no_carrier).last_place ≡ place
   pub wanted : (slice_index_or carriers carrier no_carrier).goal ≡ goal
-  pub short : place ≡ goal → ⊥
+  pub short : place ≢ goal
 
 -- the carrier's stop before this one is at the one place and this one at the other, and there is no lane between
 pub record Undriven (lanes : ℕ → ℕ → Option ℕ) (stops : List Stop) (carrier stop from to : ℕ) : Type 0 where
@@ -31,8 +31,8 @@ pub record Undriven (lanes : ℕ → ℕ → Option ℕ) (stops : List Stop) (ca
 pub record Unordered (stops : List Stop) (precedences : List Precedence) (carrier stop other later place : ℕ) : Type 0 where
   pub visits : Visits stops carrier place stop
   pub other_visits : Visits stops other place later
-  pub not_first : (k : ℕ) → Orders precedences carrier other place k → ⊥
-  pub not_second : (k : ℕ) → Orders precedences other carrier place k → ⊥
+  pub not_first : (k : ℕ) → ¬ Orders precedences carrier other place k
+  pub not_second : (k : ℕ) → ¬ Orders precedences other carrier place k
 
 -- each of the two carriers goes from its place to the other's, and goes first at its own
 pub record Opposed (stops : List Stop) (precedences : List Precedence) (carrier stop place other stop' place' : ℕ) : Type 0 where

@@ -1,13 +1,14 @@
 -- What a lag says: where it comes from on the sheet and in the yard.
 use Rattle.std.specs.Prelude.{◌≡◌, ℕ, ◌<◌, length, Some, Option, slice_index_or}
-use Rattle.lines.specs.declared.entry.Rule.{Rule}
-use Rattle.session.specs.Rules.{gaps_under}
 use Rattle.sheet.specs.Records.{no_stop, no_precedence}
 use Rattle.explain.specs.Lists.{Lists}
 use Rattle.explain.specs.declared.lag.Lag.{Lag}
 use Rattle.explain.specs.declared.lag.Lag.TheVariants.{Travel, Waiting}
+use Rattle.yard.specs.Rules.{gaps_of}
+use Rattle.yard.specs.declared.rules.FixedGap.{FixedGap}
+use Rattle.yard.specs.declared.rules.Rule.{Rule}
 
-module _ (lanes : ℕ → ℕ → Option ℕ) (rule : Rule) (lists : Lists) (s t : ℕ) where
+module _ (lanes : ℕ → ℕ → Option ℕ) (rule : Rule FixedGap) (lists : Lists) (s t : ℕ) where
   -- stop t follows stop s on the carrier's route, and the lane between their places has this travel time
   pub record Steps (carrier from to time : ℕ) : Type 0 where
     pub follows : (slice_index_or lists.stops t no_stop).previous ≡ Some s
@@ -28,7 +29,7 @@ module _ (lanes : ℕ → ℕ → Option ℕ) (rule : Rule) (lists : Lists) (s t
     pub follows : (slice_index_or lists.stops s no_stop).previous ≡ Some (slice_index_or lists.precedences k no_precedence).first_stop
     pub reaches : (slice_index_or lists.stops s no_stop).place ≡ next
     pub lane : lanes place next ≡ Some time
-    pub gap_is : gap ≡ gaps_under rule place next time
+    pub gap_is : gap ≡ gaps_of (λ g. g.ticks) rule place next time
 
   -- this is the lag from stop s to stop t
   abbrev pub LagBetween : Lag → Type 0

@@ -4,12 +4,13 @@ use crate::sheet_lags::Judging;
 use crate::site::Site;
 use crate::text::Refused;
 use crate::timetables::Timetable;
-use judge::refusal::JudgeRefusal;
 use lines::entry::Entry;
+use replies::reply::Reply;
 use session::answer::{Answer, Refusal};
 use session::sessions::Session;
 use std::io;
 use std::io::Write;
+use yard::rules::AnyRule;
 
 impl Records<'_> {
     // Writes that a carrier is accepted, and its first stop. Each kind of entry has a text of its own.
@@ -69,7 +70,7 @@ impl Site<'_> {
     }
 }
 
-// Writes what came of an entry.
+// Writes what came of an entry. Only a judging under a rule within the limits finds a ring.
 pub(crate) fn write_answer(
     session: &Session,
     entry: Entry,
@@ -77,27 +78,20 @@ pub(crate) fn write_answer(
     out: &mut impl Write,
 ) -> io::Result<()> {
     let site = Site::of(session);
-    match outcome {
-        Ok(Answer::Accepted { number }) => site.records.write_accepted(entry, number, out),
-        Ok(Answer::Passed { stops }) => {
-            let arrivals = session
-                .timetable()
-                .get(0..usize::from(stops))
-                .unwrap_or(&[]);
-            Timetable { site, arrivals }.write(out)
-        }
-        Err(refusal) => {
-            site.write_refused(entry, refusal, out)?;
-            if let Refusal::Judge {
-                why: JudgeRefusal::Ring { length },
-            } = refusal
-                && let Entry::Judge { rule } = entry
+    if let Err(refusal) = outcome {
+        site.write_refused(entry, refusal, out)?;
+    }
+    match session.reply_to(outcome) {
+        Reply::Accepted { number } => site.records.write_accepted(entry, number, out),
+        Reply::Passed { arrivals } => Timetable { site, arrivals }.write(out),
+        Reply::Ring { stops } => {
+            if let Entry::Judge { rule } = entry
+                && let Ok(rule) = AnyRule::try_from(rule)
             {
-                let ring = session.ring().get(0..usize::from(length)).unwrap_or(&[]);
-                Judging { site, rule }.write_ring(ring, out)
-            } else {
-                Ok(())
+                Judging { site, rule }.write_ring(stops, out)?;
             }
+            Ok(())
         }
+        Reply::Refused { .. } => Ok(()),
     }
 }

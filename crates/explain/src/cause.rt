@@ -1,6 +1,8 @@
 // A cause of a refusal.
 use crate::text::Counted;
+use sheet::limits::{MOST_CARRIERS, MOST_PRECEDENCES, MOST_STOPS};
 use std::fmt;
+use yard::limits::HIGHEST_PLACE;
 
 // Why the sheet refuses an entry, with the numbers concerned.
 #[derive(Clone, Copy)]
@@ -76,14 +78,23 @@ pub(crate) enum Cause {
     },
 }
 
+// One table of texts: in parts, each part would need an arm for the causes of the others.
 impl fmt::Display for Cause {
     fn fmt<W: fmt::Write>(&self, f: &mut fmt::Formatter<W>) -> fmt::Result {
         match *self {
-            Cause::TooManyCarriers => f.write_str("the sheet has 64 carriers, and takes no more"),
-            Cause::TooManyStops => f.write_str("the sheet has 1024 stops, and takes no more"),
-            Cause::TooManyPrecedences => {
-                f.write_str("the sheet has 2048 precedences, and takes no more")
+            Cause::TooManyCarriers => {
+                write!(
+                    f,
+                    "the sheet has {MOST_CARRIERS} carriers, and takes no more"
+                )
             }
+            Cause::TooManyStops => {
+                write!(f, "the sheet has {MOST_STOPS} stops, and takes no more")
+            }
+            Cause::TooManyPrecedences => write!(
+                f,
+                "the sheet has {MOST_PRECEDENCES} precedences, and takes no more"
+            ),
             Cause::NoCarrier { carrier, carriers } => write!(
                 f,
                 "there is no carrier {carrier}, as the sheet has {}",
@@ -105,7 +116,7 @@ impl fmt::Display for Cause {
                 )
             }
             Cause::PlaceTooHigh { place } => {
-                write!(f, "place {place} is above 4095, the highest")
+                write!(f, "place {place} is above {HIGHEST_PLACE}, the highest")
             }
             Cause::OnRoute {
                 carrier,

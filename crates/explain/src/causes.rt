@@ -10,20 +10,23 @@ use crate::cause::Cause;
 use crate::records::{Records, reversed};
 use keyed::find;
 use lines::entry::Entry;
+use sheet::limits::{MOST_CARRIERS, MOST_PRECEDENCES, MOST_STOPS};
 use sheet::records::{Goal, Order, Start};
 use sheet::refusal::EntryRefusal;
+use yard::limits::HIGHEST_PLACE;
 
 // The cause that the place is too high, where it is.
 fn too_high(place: u16) -> Option<Cause>
     ensures { SomeIff result (4095 < place) (PlaceTooHigh place) }
 {
-    (place > 4095).then_some(Cause::PlaceTooHigh { place })
+    (place > HIGHEST_PLACE).then_some(Cause::PlaceTooHigh { place })
 }
 
 impl Records<'_> {
     // Which end of a new carrier is taken, and by whom. By `map` and `or`, the proof of what it returns stays open.
     fn end_taken(&self, start: u16, goal: u16) -> Option<Cause>
-        ensures { IfSome result (λ cause. CarrierCause self.now start goal cause × (refusal_of cause ≡ EndTaken)) }
+        ensures fact { IfSome result (CarrierCause self.now start goal) }
+        ensures explains { IfSome result (λ cause. refusal_of cause ≡ EndTaken) }
     {
         if let Some(carrier) = find(self.carriers, &Start(start)) {
             return Some(Cause::StartTaken {
@@ -40,12 +43,17 @@ impl Records<'_> {
 
     // Why a carrier is refused.
     fn carrier_cause(&self, start: u16, goal: u16, why: EntryRefusal) -> Option<Cause>
-        ensures { IfSome result (λ cause. CarrierCause self.now start goal cause × (refusal_of cause ≡ why)) }
+        ensures fact { IfSome result (CarrierCause self.now start goal) }
+        ensures explains { IfSome result (λ cause. refusal_of cause ≡ why) }
     {
         match why {
             EntryRefusal::PlaceTooHigh => too_high(start).or(too_high(goal)),
-            EntryRefusal::LimitReached if self.carriers.len() >= 64 => Some(Cause::TooManyCarriers),
-            EntryRefusal::LimitReached if self.stops.len() >= 1024 => Some(Cause::TooManyStops),
+            EntryRefusal::LimitReached if self.carriers.len() >= MOST_CARRIERS => {
+                Some(Cause::TooManyCarriers)
+            }
+            EntryRefusal::LimitReached if self.stops.len() >= MOST_STOPS => {
+                Some(Cause::TooManyStops)
+            }
             EntryRefusal::EndTaken => self.end_taken(start, goal),
             _ => None,
         }
@@ -61,7 +69,8 @@ impl Records<'_> {
 
     // Why a stop is refused.
     fn stop_cause(&self, carrier: u8, place: u16, why: EntryRefusal) -> Option<Cause>
-        ensures { IfSome result (λ cause. StopCause self.now carrier place cause × (refusal_of cause ≡ why)) }
+        ensures fact { IfSome result (StopCause self.now carrier place) }
+        ensures explains { IfSome result (λ cause. refusal_of cause ≡ why) }
     {
         match why {
             EntryRefusal::NoCarrier => self.absent(carrier),
@@ -78,7 +87,9 @@ impl Records<'_> {
                     stop,
                 })
             }
-            EntryRefusal::LimitReached if self.stops.len() >= 1024 => Some(Cause::TooManyStops),
+            EntryRefusal::LimitReached if self.stops.len() >= MOST_STOPS => {
+                Some(Cause::TooManyStops)
+            }
             _ => None,
         }
     }
@@ -93,7 +104,7 @@ impl Records<'_> {
 
     // The cause that the place is not on the carrier's route, where it is not.
     fn off_route(&self, carrier: u8, place: u16) -> Option<Cause>
-        ensures { SomeIff result ((k : ℕ) → Visits self.now.stops carrier place k → ⊥) (NotOnRoute carrier place) }
+        ensures { SomeIff result ((k : ℕ) → ¬ Visits self.now.stops carrier place k) (NotOnRoute carrier place) }
     {
         let stop = self.stop_at(carrier, place);
         stop.is_none()
@@ -114,7 +125,8 @@ impl Records<'_> {
 
     // That the precedence does not stand, or only the other way round.
     fn not_standing(&self, order: Order) -> Option<Cause>
-        ensures { IfSome result (λ cause. OrderCause self.now order.first order.second order.place cause × (refusal_of cause ≡ NothingToStrike)) }
+        ensures fact { IfSome result (OrderCause self.now order.first order.second order.place) }
+        ensures explains { IfSome result (λ cause. refusal_of cause ≡ NothingToStrike) }
     {
         if self.standing(order).is_some() {
             return None;
@@ -140,7 +152,8 @@ impl Records<'_> {
 
     // The cause that the place is the goal of the first carrier or the start of the second, where it is.
     fn end_of_route(&self, order: Order) -> Option<Cause>
-        ensures { IfSome result (λ cause. OrderCause self.now order.first order.second order.place cause × (refusal_of cause ≡ FirstsGoalOrSecondsStart)) }
+        ensures fact { IfSome result (OrderCause self.now order.first order.second order.place) }
+        ensures explains { IfSome result (λ cause. refusal_of cause ≡ FirstsGoalOrSecondsStart) }
     {
         let Order {
             first,
@@ -164,7 +177,8 @@ impl Records<'_> {
 
     // Why a precedence, or the striking of one, is refused.
     fn order_cause(&self, order: Order, why: EntryRefusal) -> Option<Cause>
-        ensures { IfSome result (λ cause. OrderCause self.now order.first order.second order.place cause × (refusal_of cause ≡ why)) }
+        ensures fact { IfSome result (OrderCause self.now order.first order.second order.place) }
+        ensures explains { IfSome result (λ cause. refusal_of cause ≡ why) }
     {
         let Order {
             first,
@@ -184,7 +198,7 @@ impl Records<'_> {
             EntryRefusal::AlreadyDecided => {
                 self.decided(order).or(self.decided(reversed(order)))
             }
-            EntryRefusal::LimitReached if self.precedences.len() >= 2048 => {
+            EntryRefusal::LimitReached if self.precedences.len() >= MOST_PRECEDENCES => {
                 Some(Cause::TooManyPrecedences)
             }
             EntryRefusal::NothingToStrike => self.not_standing(order),
@@ -194,7 +208,8 @@ impl Records<'_> {
 
     // Why an entry is refused. The kinds carry different data, so each arm asks for itself.
     pub(crate) fn cause_of(&self, entry: Entry, why: EntryRefusal) -> Option<Cause>
-        ensures { IfSome result (λ cause. CauseOf self.now entry cause × (refusal_of cause ≡ why)) }
+        ensures fact { IfSome result (CauseOf self.now entry) }
+        ensures explains { IfSome result (λ cause. refusal_of cause ≡ why) }
     {
         match entry {
             Entry::Carrier { start, goal } => self.carrier_cause(start, goal, why),

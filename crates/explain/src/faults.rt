@@ -1,9 +1,11 @@
 // What is wrong with a line that cannot be read.
 use crate::text::{Printable, RuleName};
+use lines::MOST_DIGITS;
 use lines::entry::{Input, Rule};
 use lines::refusal::LineRefusal;
 use std::ops::Range;
 use std::{fmt, str};
+use yard::limits::LONGEST_GAP;
 
 // Kinds and rules are bytes here, shown as they stand in the line: most bytes are no kind, and no rule.
 #[derive(Clone, Copy)]
@@ -50,6 +52,7 @@ pub(crate) enum LineFault {
     },
 }
 
+// One table of texts: in parts, each part would need an arm for the faults of the others.
 impl fmt::Display for LineFault {
     fn fmt<W: fmt::Write>(&self, f: &mut fmt::Formatter<W>) -> fmt::Result {
         match *self {
@@ -58,8 +61,9 @@ impl fmt::Display for LineFault {
                 "'{}' at column {column}, counted from 0, is no digit 0-9 or A-F",
                 Printable(byte)
             ),
-            LineFault::TooLong => f.write_str(
-                "a line has at most 64 digits, and this one is longer",
+            LineFault::TooLong => write!(
+                f,
+                "a line has at most {MOST_DIGITS} digits, and this one is longer"
             ),
             LineFault::Empty => f.write_str("the line is empty"),
             LineFault::Odd { digits } => {
@@ -90,7 +94,7 @@ impl fmt::Display for LineFault {
                 write!(f, "{rule:02X} is no rule; the rules are 00, 01 and 02")
             }
             LineFault::GapTooLong { gap } => {
-                write!(f, "the gap {gap} is above 36000, the longest")
+                write!(f, "the gap {gap} is above {LONGEST_GAP}, the longest")
             }
             LineFault::GapNotTaken { rule, gap } => write!(
                 f,
@@ -111,7 +115,7 @@ fn byte_at(line: &[u8], digits: Range<usize>) -> Option<u8> {
 fn length_fault(line: &[u8]) -> Option<LineFault> {
     match line.len() {
         0 => Some(LineFault::Empty),
-        65.. => Some(LineFault::TooLong),
+        digits if digits > MOST_DIGITS => Some(LineFault::TooLong),
         digits if digits % 2 == 1 => Some(LineFault::Odd { digits }),
         digits => {
             let kind = byte_at(line, 0..2)?;

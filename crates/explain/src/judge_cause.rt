@@ -41,6 +41,7 @@ pub(crate) enum JudgeCause {
     },
 }
 
+// One table of texts: in parts, each part would need an arm for the causes of the others.
 impl fmt::Display for JudgeCause {
     fn fmt<W: fmt::Write>(&self, f: &mut fmt::Formatter<W>) -> fmt::Result {
         match *self {

@@ -6,6 +6,7 @@ ghost use Rattle.explain.specs.LaneFaults.{FaultOf, fault_number};
 use lane_yard::lane::Lane;
 use lane_yard::refusal::LayRefusal;
 use std::fmt;
+use yard::limits::{HIGHEST_PLACE, LONGEST_TIME};
 
 #[derive(Clone, Copy)]
 pub(crate) enum LaneFault {
@@ -22,12 +23,14 @@ impl fmt::Display for LaneFault {
     fn fmt<W: fmt::Write>(&self, f: &mut fmt::Formatter<W>) -> fmt::Result {
         match *self {
             LaneFault::PlaceTooHigh { place } => {
-                write!(f, "place {place} is above 4095, the highest")
+                write!(f, "place {place} is above {HIGHEST_PLACE}, the highest")
             }
             LaneFault::NoWay { place } => {
                 write!(f, "the lane leads from place {place} to itself")
             }
-            LaneFault::BadTime { time } => { write!(f, "the travel time {time} is not 1 to 36000") }
+            LaneFault::BadTime { time } => {
+                write!(f, "the travel time {time} is not 1 to {LONGEST_TIME}")
+            }
             LaneFault::NotRising { lane, before } => write!(
                 f,
                 "the lane from place {} to {} must not follow the one from {} to {}; lanes rise by from, then by to",
@@ -39,16 +42,17 @@ impl fmt::Display for LaneFault {
 
 // What is wrong with a lane outside the limits. The two places are asked for one by one, as one of them is named.
 fn limit_fault(lane: Lane, before: Option<Lane>) -> Option<LaneFault>
-    ensures { IfSome result (λ fault. FaultOf lane before fault × (fault_number fault ≡ 18)) }
+    ensures fact { IfSome result (FaultOf lane before) }
+    ensures explains { IfSome result (λ fault. fault_number fault ≡ 18) }
 {
     let Lane { from, to, time } = lane;
-    if from > 4095 {
+    if from > HIGHEST_PLACE {
         Some(LaneFault::PlaceTooHigh { place: from })
-    } else if to > 4095 {
+    } else if to > HIGHEST_PLACE {
         Some(LaneFault::PlaceTooHigh { place: to })
     } else if from == to {
         Some(LaneFault::NoWay { place: from })
-    } else if !(1..=36000).contains(&time) {
+    } else if !(1..=LONGEST_TIME).contains(&time) {
         Some(LaneFault::BadTime { time })
     } else {
         None
@@ -57,7 +61,8 @@ fn limit_fault(lane: Lane, before: Option<Lane>) -> Option<LaneFault>
 
 // What is wrong with a lane that was refused, given the one before it.
 pub(crate) fn lane_fault_of(lane: Lane, before: Option<Lane>, why: LayRefusal) -> Option<LaneFault>
-    ensures { IfSome result (λ fault. FaultOf lane before fault × (fault_number fault ≡ number_of why)) }
+    ensures fact { IfSome result (FaultOf lane before) }
+    ensures explains { IfSome result (λ fault. fault_number fault ≡ number_of why) }
 {
     match why {
         LayRefusal::BadLane { .. } => limit_fault(lane, before),

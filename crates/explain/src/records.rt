@@ -55,21 +55,21 @@ impl Records<'_> {
     // The number of the carrier's stop at the place. Each look-up is the one search, by a key of its own. The carrier and
     // the place are of two types, and causes name them one by one, so the key is made only here.
     pub(crate) fn stop_at(&self, carrier: u8, place: u16) -> Option<usize>
-        ensures { MatchOption result ((k : ℕ) → Visits self.now.stops carrier place k → ⊥) (Visits self.now.stops carrier place) }
+        ensures { MatchOption result ((k : ℕ) → ¬ Visits self.now.stops carrier place k) (Visits self.now.stops carrier place) }
     {
         find(self.stops, &Visit { carrier, place })
     }
 
     // The index of the precedence, where it stands.
     pub(crate) fn standing(&self, order: Order) -> Option<usize>
-        ensures { MatchOption result ((k : ℕ) → Orders self.now.precedences order.first order.second order.place k → ⊥) (Orders self.now.precedences order.first order.second order.place) }
+        ensures { MatchOption result ((k : ℕ) → ¬ Orders self.now.precedences order.first order.second order.place k) (Orders self.now.precedences order.first order.second order.place) }
     {
         find(self.precedences, &order)
     }
 
     // The number of the stop after this one on its route.
     pub(crate) fn stop_after(&self, stop: u16) -> Option<usize>
-        ensures { MatchOption result ((k : ℕ) → Follows self.now.stops stop k → ⊥) (Follows self.now.stops stop) }
+        ensures { MatchOption result ((k : ℕ) → ¬ Follows self.now.stops stop k) (Follows self.now.stops stop) }
     {
         find(self.stops, &Previous(Some(stop)))
     }

@@ -1,36 +1,23 @@
 // Finding the lag between two stops.
-ghost use Rattle.std.specs.Prelude.{◌≡◌, IfSome};
+ghost use Rattle.std.specs.Prelude.{IfSome};
 ghost use Rattle.lane_yard.specs.Meaning.{lanes_of};
-ghost use Rattle.session.specs.Rules.{gaps_under};
 ghost use Rattle.explain.specs.Lags.{LagBetween};
 
 use crate::keys::StopPair;
 use crate::lag::Lag;
 use crate::site::Site;
 use keyed::find;
-use lines::entry::Rule;
-use yard::rules::{FullLane, LaneLessOne};
+use yard::rules::AnyRule;
 use yard::{FollowingRule, Yard};
 
 // A sheet in its yard, and the rule that it is judged under.
 #[derive(Drop)]
 pub(crate) struct Judging<'a> {
     pub site: Site<'a>,
-    pub rule: Rule,
+    pub rule: AnyRule,
 }
 
 impl Judging<'_> {
-    // The gap of a lane under the rule. A line's rule is no `FollowingRule` itself: its gap has no limit in the type.
-    fn gap(&self, from: u16, to: u16, time: u16) -> u32
-        ensures { result ≡ gaps_under self.now.rule from to time }
-    {
-        match self.rule {
-            Rule::FullLane => FullLane.gap(from, to, time),
-            Rule::LaneLessOne => LaneLessOne.gap(from, to, time),
-            Rule::FixedGap { gap } => u32::from(gap),
-        }
-    }
-
     // The lag of the step from stop `s` to stop `t`, where the one follows the other on a route.
     fn travel_lag(&self, s: u16, t: u16) -> Option<Lag>
         ensures { IfSome result (LagBetween (lanes_of self.now.site.yard.now) self.now.rule self.now.site.records s t) }
@@ -67,7 +54,7 @@ impl Judging<'_> {
             second: precedence.second,
             place: precedence.place,
             next: next.place,
-            gap: self.gap(precedence.place, next.place, time),
+            gap: self.rule.gap(precedence.place, next.place, time),
             time,
         })
     }

@@ -1,4 +1,5 @@
 // Small pieces of text.
+use lines::MOST_DIGITS;
 use lines::entry::{Entry, Rule};
 use std::fmt;
 
@@ -86,18 +87,18 @@ impl fmt::Display for Printable {
     }
 }
 
-// A line that may hold any bytes, in quotes: at most its first 64 bytes, and dots if there are more.
+// A line that may hold any bytes, in quotes: at most as many of them as a line has digits, and dots if there are more.
 #[derive(Clone, Copy)]
 pub(crate) struct Quoted<'a>(pub &'a [u8]);
 
 impl fmt::Display for Quoted<'_> {
     fn fmt<W: fmt::Write>(&self, f: &mut fmt::Formatter<W>) -> fmt::Result {
         f.write_char('"')?;
-        for byte in self.0.iter().take(64) {
+        for byte in self.0.iter().take(MOST_DIGITS) {
             write!(f, "{}", Printable(*byte))?;
         }
         match self.0.len() {
-            0..=64 => f.write_char('"'),
+            0..=MOST_DIGITS => f.write_char('"'),
             _ => f.write_str("...\""),
         }
     }

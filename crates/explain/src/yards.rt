@@ -5,7 +5,7 @@ use crate::text::{Counted, Quoted, Refused};
 use console::input::{TakesLines, take_lines};
 use lane_yard::lane::Lane;
 use lane_yard::refusal::LayRefusal;
-use lane_yard::yards::LaneYard;
+use lane_yard::yards::{LaneYard, MOST_LANES};
 use lines::entry::{Entry, Input};
 use lines::read::read_entry;
 use session::answer::Refusal;
@@ -82,6 +82,16 @@ impl TakesLines for RefusedLine {
     }
 }
 
+// The cause of the refusal of a whole file: no line of it is at fault.
+#[derive(Clone, Copy)]
+struct TooManyLanes;
+
+impl fmt::Display for TooManyLanes {
+    fn fmt<W: fmt::Write>(&self, f: &mut fmt::Formatter<W>) -> fmt::Result {
+        write!(f, "a yard has at most {MOST_LANES} lanes")
+    }
+}
+
 // Writes which line of the file is refused, and why.
 pub(crate) fn write_refused_yard(
     rt: &HostRuntime,
@@ -103,7 +113,7 @@ pub(crate) fn write_refused_yard(
     let cause = match refusal {
         Refusal::Lay {
             why: LayRefusal::TooManyLanes,
-        } => Some("a yard has at most 8192 lanes"),
+        } => Some(TooManyLanes),
         _ => None,
     };
     writeln!(out, "yard.hex: {}", Refused { number, cause })

@@ -5,7 +5,6 @@ use Rattle.lines.specs.Reading.{reading}
 use Rattle.lines.specs.declared.entry.Entry.{Entry}
 use Rattle.lines.specs.declared.entry.Entry.TheVariants.{Judge}
 use Rattle.lines.specs.declared.entry.Input.TheVariants.{Sheet}
-use Rattle.lines.specs.declared.entry.Rule.{Rule}
 use Rattle.lines.proofs.Readings.{reading_kept}
 use Rattle.plan.specs.Plans.{Lanes}
 use Rattle.replies.specs.Answers.{Answer as Reply, line_of}
@@ -17,6 +16,7 @@ use Rattle.session.specs.Writing.{Continues, said_by}
 use Rattle.session.specs.Replies.{Asks, EntryReplied, JudgingReplied, LineReplied, reply_to_answer, setting_of}
 use Rattle.session.specs.declared.answer.Answer.{Answer as Said}
 use Rattle.session.specs.declared.answer.Refusal.{Refusal}
+use Rattle.yard.specs.declared.rules.Rule.{Rule}
 
 says_entered : (timetable page : List ℕ) (answer : Answer) → said_by timetable page (entered_as answer) ≡ reply_to_answer answer
 says_entered timetable page answer = search rules
@@ -32,7 +32,7 @@ module _ (lanes : Lanes) (b b' : Book) (entry : Entry) (timetable page : List �
   }
 
   -- an entry that asks for a judging
-  pub judged_under : (rule : Rule) (reply : Reply) → entry ≡ Judge rule → JudgingReplied (setting_of lanes rule) b reply → b' ≡ b → EntryReplied lanes b entry reply b'
+  pub judged_under : (rule : Rule ℕ) (reply : Reply) → entry ≡ Judge rule → JudgingReplied (setting_of lanes rule) b reply → b' ≡ b → EntryReplied lanes b entry reply b'
   judged_under rule reply is replied same = record {
     event = judged (setting_of lanes rule) 1024 replied.found;
     asked = rw is (replied.found, refl);

@@ -1,12 +1,10 @@
 -- What a session answers to a line.
-use Rattle.std.specs.Prelude.{◌≡◌, ℕ, ◌-◌, ◌<◌, ◌≤◌, cond, List, is_ok, Ok, Err, Result}
+use Rattle.std.specs.Prelude.{◌≡◌, ℕ, ◌<◌, ◌≤◌, cond, List, is_ok, Ok, Err, Result}
 use Rattle.judge.specs.Judged.{Judged, judging_of}
 use Rattle.judge.specs.declared.refusal.JudgeRefusal.{JudgeRefusal}
 use Rattle.judge.specs.Settling.{Pages, Within}
 use Rattle.lines.specs.declared.entry.Entry.{Entry}
 use Rattle.lines.specs.declared.entry.Entry.TheVariants.{Carrier, Stop, Precedence, Strike, Judge, Lane}
-use Rattle.lines.specs.declared.entry.Rule.{Rule}
-use Rattle.lines.specs.declared.entry.Rule.TheVariants.{FullLane, LaneLessOne, FixedGap}
 use Rattle.lines.specs.declared.refusal.LineRefusal.{LineRefusal}
 use Rattle.lines.specs.declared.refusal.LineRefusal.TheVariants.{UnknownKind, BadRule}
 use Rattle.lines.specs.declared.refusal.WriteRefusal.{WriteRefusal}
@@ -17,11 +15,14 @@ use Rattle.sheet.specs.Book.{Book}
 use Rattle.sheet.specs.Calls.{Call, enter_carrier, enter_stop, enter_precedence, strike_precedence}
 use Rattle.sheet.specs.Histories.{Enters}
 use Rattle.sheet.specs.declared.refusal.EntryRefusal.{EntryRefusal}
+use Rattle.session.specs.Rules.{largest_of}
 use Rattle.session.specs.Writing.{said_by}
 use Rattle.session.specs.declared.answer.Answer.{Answer}
 use Rattle.session.specs.declared.answer.Answer.TheVariants.{Accepted, Passed}
 use Rattle.session.specs.declared.answer.Refusal.{Refusal}
 use Rattle.session.specs.declared.answer.Refusal.TheVariants.{Line, Entry as OfEntry, Judge as OfJudge, Lay}
+use Rattle.yard.specs.Rules.{gap_of, gaps_of}
+use Rattle.yard.specs.declared.rules.Rule.{Rule}
 
 -- as many numbers as are answered are on the pages, which have 1,024
 abbrev pub OnPages : Result Answer Refusal → Type 0
@@ -60,10 +61,9 @@ said p a = said_by p.timetable_after p.ring_after a
 
 -- what an entry is answered, and the book that it leaves
 module _ (lanes : Lanes) (b b' : Book) (p : Pages) where
-  abbrev pub Ruled : Rule → Result Answer Refusal → Type 0
-  Ruled FullLane a = Judges lanes (λ _ _ time. time) 36000 b p a
-  Ruled LaneLessOne a = Judges lanes (λ _ _ time. time - 1) 35999 b p a
-  Ruled (FixedGap gap) a = (gap ≤ 36000 → Judges lanes (λ _ _ _. gap) 36000 b p a) × (36000 < gap → a ≡ Err (Line BadRule))
+  -- under a rule with a gap above 36,000 there is no judging
+  abbrev pub Ruled : Rule ℕ → Result Answer Refusal → Type 0
+  Ruled rule a = (gap_of rule ≤ 36000 → Judges lanes (gaps_of (λ g. g) rule) (largest_of rule) b p a) × (36000 < gap_of rule → a ≡ Err (Line BadRule))
 
   abbrev pub Answered : Entry → Result Answer Refusal → Type 0
   Answered (Carrier start goal) a = Calls b (enter_carrier start goal) b' a

@@ -1,5 +1,5 @@
 -- What the lines of a session are replied, and what they do to its sheet, from the opening on.
-use Rattle.std.specs.Prelude.{◌≡◌, ℕ, ◌-◌, List, Some, None, Ok, Err, Option, Result}
+use Rattle.std.specs.Prelude.{◌≡◌, ℕ, List, Some, None, Ok, Err, Option, Result}
 use Rattle.judge.specs.Findings.{Setting, Finding, not_at_goal, no_lane, undecided, head_on, in_a_ring, passes}
 use Rattle.judge.specs.FindingHistories.{Event, entered, judged, Happens}
 use Rattle.judge.specs.Shown.{Concludes}
@@ -11,8 +11,6 @@ use Rattle.lines.specs.Refusals as unread
 use Rattle.lines.specs.declared.entry.Entry.{Entry}
 use Rattle.lines.specs.declared.entry.Entry.TheVariants.{Carrier, Stop, Precedence, Strike, Judge, Lane}
 use Rattle.lines.specs.declared.entry.Input.TheVariants.{Sheet}
-use Rattle.lines.specs.declared.entry.Rule.{Rule}
-use Rattle.lines.specs.declared.entry.Rule.TheVariants.{FullLane, LaneLessOne, FixedGap}
 use Rattle.lines.specs.declared.refusal.LineRefusal.{LineRefusal}
 use Rattle.replies.specs.Answers.{Answer as Reply, accepted, passed, ring, refused, line_of}
 use Rattle.plan.specs.Plans.{Lanes}
@@ -20,12 +18,13 @@ use Rattle.sheet.specs.Book.{Book}
 use Rattle.sheet.specs.Calls.{Answer, enter_carrier, enter_stop, enter_precedence, strike_precedence}
 use Rattle.sheet.specs.Histories.{History, Leads}
 use Rattle.sheet.specs.Refusals as entering
+use Rattle.session.specs.Rules.{largest_of}
+use Rattle.yard.specs.Rules.{gaps_of}
+use Rattle.yard.specs.declared.rules.Rule.{Rule}
 
 -- the yard's lanes with the rule that a line names
-abbrev pub setting_of : Lanes → Rule → Setting
-setting_of lanes FullLane = record { lanes = lanes; gap = λ _ _ time. time; largest = 36000 }
-setting_of lanes LaneLessOne = record { lanes = lanes; gap = λ _ _ time. time - 1; largest = 35999 }
-setting_of lanes (FixedGap gap) = record { lanes = lanes; gap = λ _ _ _. gap; largest = 36000 }
+abbrev pub setting_of : Lanes → Rule ℕ → Setting
+setting_of lanes rule = record { lanes = lanes; gap = gaps_of (λ g. g) rule; largest = largest_of rule }
 
 -- an entry asks for a call, whatever its answer, or for a judging with 1,024 numbers on each page, whatever it finds
 abbrev pub Asks : Lanes → Entry → Event → Type 0

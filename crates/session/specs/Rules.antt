@@ -1,11 +1,10 @@
 -- The following rules as lines name them.
-use Rattle.std.specs.Prelude.{◌-◌}
-use Rattle.lines.specs.declared.entry.Rule.{Rule}
-use Rattle.lines.specs.declared.entry.Rule.TheVariants.{FullLane, LaneLessOne, FixedGap}
-use Rattle.plan.specs.Plans.{Gaps}
+use Rattle.std.specs.Prelude.{ℕ}
+use Rattle.yard.specs.declared.rules.Rule.{Rule}
+use Rattle.yard.specs.declared.rules.Rule.TheVariants.{FullLane, LaneLessOne, FixedGap}
 
--- the gap that the rule gives behind a carrier
-abbrev pub gaps_under : Rule → Gaps
-gaps_under FullLane = λ _ _ time. time
-gaps_under LaneLessOne = λ _ _ time. time - 1
-gaps_under (FixedGap gap) = λ _ _ _. gap
+-- the largest gap that the rule can give within its limit
+abbrev pub largest_of : Rule ℕ → ℕ
+largest_of FullLane = 36000
+largest_of LaneLessOne = 35999
+largest_of (FixedGap gap) = 36000

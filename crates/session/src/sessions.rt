@@ -1,6 +1,6 @@
 // The session and its calls.
-ghost use Rattle.std.specs.Prelude.{◌≡◌, ◌<◌, ◌≤◌, IsTrue, IsOk, if◌then◌else◌, length, take, is_ok, IfOk, IfErr};
-ghost use Rattle.lines.specs.Entries.{Lawful as LawfulEntry, gap_of, has, kind_of};
+ghost use Rattle.std.specs.Prelude.{◌≡◌, ◌<◌, ◌≤◌, IsTrue, IsOk, if◌then◌else◌, length, take, is_ok, IfOk};
+ghost use Rattle.lines.specs.Entries.{Lawful as LawfulEntry, has, kind_of};
 ghost use Rattle.lines.specs.Pages.{written};
 ghost use Rattle.lines.specs.Reading.{reading};
 ghost use Rattle.lines.specs.declared.entry.Input.TheVariants.{Sheet as SheetInput};
@@ -11,12 +11,9 @@ ghost use Rattle.sheet.specs.Histories.History.{opening};
 ghost use Rattle.session.specs.Answers.{Answered, LineAnswered, OnPages, Replied, Ruled, entered_as};
 ghost use Rattle.session.specs.Refusals.{number_of, told_by};
 ghost use Rattle.session.specs.Replies.{EntryReplied, JudgingReplied, Lawful, LineReplied, setting_of};
-ghost use Rattle.session.specs.Rules.{gaps_under};
 ghost use Rattle.session.specs.Sessions.{book_in, lanes_in, pages_over, said_in};
 ghost use Rattle.session.specs.Writing.{Continues, ReplyWritten, Stand};
-ghost use Rattle.session.specs.declared.answer.Refusal.TheVariants.{Line as LineRefused};
-ghost use Rattle.lines.specs.declared.refusal.LineRefusal.TheVariants.{BadRule};
-ghost use Rattle.yard.specs.Rules.{gaps_of};
+ghost use Rattle.yard.specs.Rules.{gap_of};
 
 use crate::answer::{Answer, Refusal};
 use judge::judging::judge;
@@ -26,32 +23,26 @@ use lines::entry::{Entry, Input, Rule};
 use lines::read::read_entry;
 use lines::refusal::{LineRefusal, WriteRefusal};
 use replies::reply::Reply;
+use sheet::limits::MOST_STOPS;
 use sheet::refusal::EntryRefusal;
 use sheet::sheets::Sheet;
 use std::alloc::{AllocError, Global};
-use yard::rules::{AnyRule, FixedGap};
+use yard::rules::AnyRule;
 
 // A yard and a sheet, with pages for judging that are long enough for every sheet.
 #[derive(Drop)]
 pub struct Session {
     yard: LaneYard,
     sheet: Sheet,
-    timetable: [u32; 1024],
-    ring: [u16; 1024],
+    timetable: [u32; MOST_STOPS],
+    ring: [u16; MOST_STOPS],
 }
 
-// The rule that a line names. Neither type is this crate's own, so it can be no `From`.
-fn rule_of(rule: Rule) -> Result<AnyRule, Refusal>
-    ensures ok { IfOk result (λ any. (gap_of rule ≤ 36000) × (gaps_of any ≡ gaps_under rule)) }
-    ensures err { IfErr result (λ e. (36000 < gap_of rule) × (e ≡ LineRefused BadRule)) }
+// The first so many numbers of a page, or all of them where it has fewer.
+fn front<T>(page: &[T], count: u16) -> &[T]
+    ensures { result.now ≡ take count page.now }
 {
-    match rule {
-        Rule::FullLane => Ok(AnyRule::FullLane),
-        Rule::LaneLessOne => Ok(AnyRule::LaneLessOne),
-        Rule::FixedGap { gap } => Ok(AnyRule::Fixed {
-            gap: FixedGap::try_from(gap)?,
-        }),
-    }
+    &page[..page.len().min(usize::from(count))]
 }
 
 // What comes of an entry or a striking.
@@ -72,8 +63,8 @@ impl Session {
         Ok(Session {
             yard,
             sheet,
-            timetable: [0; 1024],
-            ring: [0; 1024],
+            timetable: [0; MOST_STOPS],
+            ring: [0; MOST_STOPS],
         })
     }
 
@@ -114,7 +105,7 @@ impl Session {
         ensures stand { Stand (pages_over self.old self.new) result }
         ensures within { OnPages result }
     {
-        let rule = rule_of(rule)?;
+        let rule = AnyRule::try_from(rule)?;
         let stops = judge(
             &self.sheet,
             &self.yard,
@@ -164,22 +155,22 @@ impl Session {
         self.take(entry)
     }
 
-    // The reply of an answer, with the session's pages.
-    fn reply_to(&self, answer: Result<Answer, Refusal>) -> Reply<'_>
-        requires { OnPages answer }
+    // The reply of an answer, with the session's pages. An answer of this session lists no more numbers than a page has; of
+    // any other the reply has all that are on the page.
+    pub fn reply_to(&self, answer: Result<Answer, Refusal>) -> Reply<'_>
         ensures { answer_of result ≡ said_in self.now answer }
     {
         match answer {
             Ok(Answer::Accepted { number }) => Reply::Accepted { number },
             Ok(Answer::Passed { stops }) => Reply::Passed {
-                arrivals: &self.timetable[..usize::from(stops)],
+                arrivals: front(&self.timetable, stops),
             },
             Err(
                 Refusal::Judge {
                     why: JudgeRefusal::Ring { length },
                 },
             ) => Reply::Ring {
-                stops: &self.ring[..usize::from(length)],
+                stops: front(&self.ring, length),
             },
             Err(refusal) => refusal.into(),
         }

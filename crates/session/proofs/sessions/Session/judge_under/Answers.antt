@@ -8,8 +8,8 @@ pub returns-in_err-stops-clause-ruled : goal.returns-in_err-stops-clause-ruled
 returns-in_err-stops-clause-ruled c =
     let own = c.args.self.now in
     let after = record own { timetable = c.judge.new.timetable; ring = c.judge.new.ring } in
-    let rule = c.in_ok-rule.ensures.ok in
-    ruled (lanes_in own) (gaps_of c.in_ok-rule.rule) (book_in own) (pages_over own after) c.args.rule c.judge.result c.from_residual-in_err-stops.result rule.1 (search rules) (book_in own) rule.0 c.judge.ensures.judges
+    let rule = c.in_ok-rule.ensures in
+    ruled (lanes_in own) (gaps_of (λ g. g.ticks) c.in_ok-rule.rule) (book_in own) (pages_over own after) c.args.rule c.judge.result c.from_residual-in_err-stops.result rule.1 (search rules) (book_in own) rule.0 c.judge.ensures.judges
 
 pub returns-in_err-stops-clause-replied : goal.returns-in_err-stops-clause-replied
 returns-in_err-stops-clause-replied c _ =
@@ -17,4 +17,4 @@ returns-in_err-stops-clause-replied c _ =
     let after = record own { timetable = c.judge.new.timetable; ring = c.judge.new.ring } in
     let timetable : length own.timetable ≡ 1024 = search rules in
     let ring : length own.ring ≡ 1024 = search rules in
-    replied (lanes_in own) (gaps_of c.in_ok-rule.rule) (book_in own) (pages_over own after) c.args.rule c.judge.result c.from_residual-in_err-stops.result c.in_ok-rule.ensures.ok.1 (search rules) (rw (timetable, ring)) c.judge.ensures.concludes
+    replied (lanes_in own) (gaps_of (λ g. g.ticks) c.in_ok-rule.rule) (book_in own) (pages_over own after) c.args.rule c.judge.result c.from_residual-in_err-stops.result c.in_ok-rule.ensures.1 (search rules) (rw (timetable, ring)) c.judge.ensures.concludes

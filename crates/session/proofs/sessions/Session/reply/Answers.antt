@@ -8,7 +8,7 @@ returns-clause-goes_on c =
     let own = c.args.self.now in
     let after = c.answer-answer.new.self in
     let few = said_few after.timetable after.ring c.answer-answer.result c.answer-answer.ensures.within in
-    goes_on c.args.page.now c.write.new.page c.write.result (said_in after c.answer-answer.result) few (search rules) (lanes_in own) (book_in own) (book_in after) c.args.line.now c.answer-answer.ensures.replied
+    goes_on c.args.page.now c.write.new.page c.write.result (said_in after c.answer-answer.result) few (search rules) (lanes_in own) (book_in own) (book_in after) c.args.line.now c.answer-answer.ensures.goes_on
 
 pub returns-clause-room : goal.returns-clause-room
 returns-clause-room c = search (rules, finds_room, said_few)
