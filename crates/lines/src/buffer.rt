@@ -38,7 +38,8 @@ impl LineBuffer {
     pub fn clear(&mut self)
         ensures { kept self.new ≡ [] }
     {
-        self.bytes.clear();
+        // Quicker than `ArrayVec::clear`, which calls for each line a function to blank its bytes.
+        *self = LineBuffer::new();
     }
 
     // Whether the line has a byte.

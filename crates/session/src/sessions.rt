@@ -98,6 +98,8 @@ impl Session {
 
     // Judges the sheet in the yard under the rule that a line names.
     // Here and below `same`, `stand` and `within` are clauses of their own: a caller asks for each alone.
+    // Not inlined: a judging has 100 kilobytes of tables on the stack, which a line that asks for none would make room for too.
+    #[inline(never)]
     fn judge_under(&mut self, rule: Rule) -> Result<Answer, Refusal>
         ensures ruled { Ruled (lanes_in self.old) (book_in self.old) (book_in self.new) (pages_over self.old self.new) rule result }
         ensures replied { gap_of rule ≤ 36000 → JudgingReplied (setting_of (lanes_in self.old) rule) (book_in self.old) (said_in self.new result) }
