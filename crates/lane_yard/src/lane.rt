@@ -1,5 +1,5 @@
 // A lane of a yard.
-ghost use Rattle.std.specs.Prelude.{◌≡◌, ◌+◌, ◌*◌};
+ghost use Rattle.std.specs.Prelude.{◌≡◌};
 
 use keyed::Keyed;
 
@@ -9,14 +9,6 @@ pub struct Lane {
     pub from: u16,
     pub to: u16,
     pub time: u16,
-}
-
-// Two places as one number, whose order is that of the pairs. A comparison of one number is quicker than one of a pair: a
-// search by pairs misses the bar of speed.
-pub(crate) fn packed(from: u16, to: u16) -> u32
-    ensures { result ≡ from * 65536 + to }
-{
-    u32::from(from) * 65536 + u32::from(to)
 }
 
 impl Lane {

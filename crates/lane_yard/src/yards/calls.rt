@@ -6,7 +6,7 @@ ghost use Rattle.lane_yard.specs.Records.{LanesOf, Tells};
 ghost use Rattle.lane_yard.specs.Times.{time_within};
 
 use crate::checks::check_lanes;
-use crate::lane::{Lane, packed};
+use crate::lane::Lane;
 use crate::refusal::LayRefusal;
 use crate::yards::LaneYard;
 use bounded::BoundedVec;
@@ -52,9 +52,8 @@ impl Yard for LaneYard {
         ensures tells { Tells (records_of self.now) from to result }
     {
         let lanes = self.lanes();
-        let wanted = packed(from, to);
         lanes
-            .binary_search_by(|lane| packed(lane.from, lane.to).cmp(&wanted))
+            .binary_search_by_key(&(from, to), |lane| lane.places())
             .ok()
             .map(|index| lanes[index].time)
     }
