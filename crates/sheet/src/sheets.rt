@@ -10,8 +10,8 @@ ghost use Rattle.sheet.specs.Histories.History.{opening};
 ghost use Rattle.sheet.specs.Sound.{Sound, Holds};
 ghost use Rattle.sheet.specs.Tables.{book_of, OnlyGoesOn, NumberedTables, CarriersInside, StopsInside, Linked, PrecedencesInside};
 
-use crate::records::{Carrier, Goal, Order, Precedence, Start, Stop, Visit};
 use crate::limits::{MOST_CARRIERS, MOST_PRECEDENCES, MOST_STOPS};
+use crate::records::{Carrier, Goal, Order, Precedence, Start, Stop, Visit};
 use crate::refusal::EntryRefusal;
 use bounded::BoundedVec;
 use keyed::{Keyed, find};
