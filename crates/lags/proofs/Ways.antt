@@ -1,6 +1,6 @@
 -- Ways, rings and solutions over one relation and over another, and why a ring leaves no solution.
 use Rattle.std.proofs.Common.{ℕ, List, ℤ}
-use Rattle.lags.specs.Ways.{Way, Ring, Solution}
+use Rattle.lags.specs.Ways.{Way, Ring, Solution, Least}
 use Rattle.lags.specs.Ways.Way.{last, more}
 use Rattle.lags.specs.Times.{AtLeast}
 use Rattle.lags.proofs.Times.{at_least_adds, above_raises}
@@ -23,6 +23,10 @@ module _ (A B : ℕ → ℕ → ℤ → Type 0) (each : (s t : ℕ) (w : ℤ) �
 
   pub solution_over : (α : ℕ → ℕ) → Solution B α → Solution A α
   solution_over α k s t w h = k s t w (each s t w h)
+
+  -- and each of B is one of A
+  pub least_over : ((s t : ℕ) (w : ℤ) → B s t w → A s t w) → (α : ℕ → ℕ) → Least B α → Least A α
+  least_over back α l = (solution_over α l.0, λ β k v. l.1 β (λ s t w h. k s t w (back s t w h)) v)
 
 module _ (Between : ℕ → ℕ → ℤ → Type 0) (α : ℕ → ℕ) (keeps : Solution Between α) where
   -- along a way a solution rises by the way's sum at least
