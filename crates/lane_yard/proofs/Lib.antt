@@ -1,3 +1,5 @@
 pub mod Rises
+pub mod Halves
+pub mod Found
 pub mod Listed
 pub mod Single

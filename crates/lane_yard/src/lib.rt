@@ -4,4 +4,5 @@
 mod checks;
 pub mod lane;
 pub mod refusal;
+mod search;
 pub mod yards;

@@ -8,8 +8,10 @@ ghost use Rattle.lane_yard.specs.Times.{time_within};
 use crate::checks::check_lanes;
 use crate::lane::Lane;
 use crate::refusal::LayRefusal;
+use crate::search::narrow;
 use crate::yards::LaneYard;
 use bounded::BoundedVec;
+use keyed::find;
 use std::alloc::{AllocError, Global};
 use yard::Yard;
 
@@ -51,10 +53,7 @@ impl Yard for LaneYard {
         ensures value { result ≡ lanes_of self.now from to }
         ensures tells { Tells (records_of self.now) from to result }
     {
-        let lanes = self.lanes();
-        lanes
-            .binary_search_by_key(&(from, to), |lane| lane.places())
-            .ok()
-            .map(|index| lanes[index].time)
+        let part = narrow(self.lanes(), (from, to));
+        find(part, &(from, to)).map(|index| part[index].time)
     }
 }
