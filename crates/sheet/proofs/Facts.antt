@@ -79,10 +79,6 @@ module _ (s : Sheet) where
   pub visits_within : (t c u : ℕ) → Visits b t c u → t < length ss
   visits_within t c u v = Grown.visits_within cs ss ps t c u v
 
-  -- a carrier has one start and one goal
-  pub one_way : (c u v u' v' : ℕ) → Goes b c u v → Goes b c u' v' → (u ≡ u') × (v ≡ v')
-  one_way c u v u' v' p q = Words.one_way b c u v u' v' p q
-
   -- the carrier's latest stop
   pub latest_of : (c : ℕ) (x : Carrier) → slice_get cs c ≡ Some x → Latest b c x.last_stop x.last_place
   latest_of c x e = numbered_of.latest c x e
@@ -94,13 +90,6 @@ module _ (s : Sheet) where
   pub no_stop_at_goal : (c : ℕ) (x : Carrier) → slice_get cs c ≡ Some x → x.last_place ≢ x.goal → (t : ℕ) → ¬ Visits b t c x.goal
   no_stop_at_goal c x e other t v =
       other (Told.at_goal b sound_of c _ _ _ _ (goes_of c x e) (latest_of c x e) (x.goal, (x.start, goes_of c x e), (t, v)))
-
-  -- a route has reached its goal just when its latest stop is there
-  pub reaches_goal : (c : ℕ) (x : Carrier) → slice_get cs c ≡ Some x → x.last_place ≡ x.goal → ReachedGoal b c
-  reaches_goal c x e q = (x.goal, (x.start, goes_of c x e), (x.last_stop, stops_at_goal c x e q))
-
-  pub reached_goal : (c : ℕ) (x : Carrier) → slice_get cs c ≡ Some x → ReachedGoal b c → x.last_place ≡ x.goal
-  reached_goal c x e reached = Told.at_goal b sound_of c _ _ _ _ (goes_of c x e) (latest_of c x e) reached
 
   -- the stop before a stop is its previous one
   pub previous_next : (t p : ℕ) (x : Stop) → slice_get ss t ≡ Some x → x.previous ≡ Some p → (y : Stop) × (slice_get ss p ≡ Some y) × Next b x.carrier p y.place t x.place
@@ -134,13 +123,6 @@ module _ (s : Sheet) where
       (λ (r, q). let y = previous_next t r x e q in let it = y.2 in grind (arith, it, one_next c r y.0.place p u t v))
       (some_or_none x.previous)
 
-  pub starts_none : (c t u : ℕ) (x : Stop) → slice_get ss t ≡ Some x → Starts b c t u → x.previous ≡ None
-  starts_none c t u x e at =
-      let its = one_visit t x.carrier x.place c u (visits_of t x e) at.here in
-      ⊎_elim (λ q. q)
-      (λ (r, q). let y = previous_next t r x e q in let it = y.2 in absurd (grind (arith, it, at.first r y.0.place)))
-      (some_or_none x.previous)
-
   -- a stop is its carrier's first, or follows one
   pub first_or_next : (t c v : ℕ) → Visits b t c v → Starts b c t v ⊎ ((p u : ℕ) × Next b c p u t v)
   first_or_next t c v z =
@@ -159,26 +141,10 @@ module _ (s : Sheet) where
   pub has_next : (c a u t v : ℕ) → Visits b a c u → Visits b t c v → a < t → (r w : ℕ) × Next b c a u r w
   has_next c a u t v at z l = next_below c a u at (suc t) t v (omega arith) l z
 
-  -- a carrier with a stop has a first stop
-  start_below : (c n t v : ℕ) → t < n → Visits b t c v → (r w : ℕ) × Starts b c r w
-  start_below c zero t v l z = absurd (omega arith)
-  start_below c (suc n) t v l z =
-      ⊎_elim
-      (λ first. (t, v, first))
-      (λ (p, w, on). let k = on.later in start_below c n p w (omega arith) on.here)
-      (first_or_next t c v z)
-
   -- the first stop of a carrier is at its start
   pub starts_at_start : (c t w u : ℕ) → Starts b c t w → StartOf b c u → w ≡ u
   starts_at_start c t w u at g =
       ∥∥₁_elim (sound_of.begins c u g) (ℕ_set w u) (λ (x : (r : ℕ) × Starts b c r u). (one_start c t w x.0 u at x.1).1)
-
-  pub first_stop : (c u v : ℕ) → Goes b c u v → (t : ℕ) × Starts b c t u
-  first_stop c u v g =
-      let x = goes_from c u v g in
-      let late = latest_of c x.0 x.1 in
-      let first = start_below c (suc x.0.last_stop) _ _ (omega arith) late.here in
-      (first.0, grind (arith, first, starts_at_start c first.0 first.1 u first.2 (v, g)))
 
   -- a carrier that stops somewhere is on the sheet
   pub goes : (t c u : ℕ) → Visits b t c u → (v w : ℕ) × Goes b c v w
@@ -208,7 +174,3 @@ module _ (s : Sheet) where
   -- the first goes on to another stop, once its route has reached its goal
   pub first_goes_on : (k first second u r : ℕ) → Stands b k first second u → Visits b r first u → ReachedGoal b first → (t v : ℕ) × Next b first r u t v
   first_goes_on k first second u r stands z reached = grind (arith, one_visit, has_next, sound_of.not_goal, sound_of.ends)
-
-  -- two carriers have at most one precedence at a place, either way round
-  pub decided_once : (j k c e u : ℕ) → Stands b j c e u → Stands b k c e u ⊎ Stands b k e c u → j ≡ k
-  decided_once j k c e u p q = sound_of.decided_once j k c e u p q

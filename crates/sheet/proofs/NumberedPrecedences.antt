@@ -7,16 +7,15 @@ use Rattle.sheet.specs.declared.records.Precedence.{Precedence}
 use Rattle.sheet.specs.Book.{Visits}
 use Rattle.sheet.specs.Records.{book_from, Numbered}
 use Rattle.sheet.proofs.SliceGet.{slice_get-push_cases, slice_get-remove}
-use Rattle.sheet.proofs.Grown.{latest_same, starts_same, next_same}
 
 module _ (cs : List Carrier) (ss : List Stop) (ps ps' : List Precedence) (right : Numbered cs ss ps) where
   -- other precedences, whose stops are right
   numbered_others : ((k : ℕ) (x : Precedence) → slice_get ps' k ≡ Some x → Visits (book_from cs ss ps) x.first_stop x.first x.place × Visits (book_from cs ss ps) x.second_stop x.second x.place) → Numbered cs ss ps'
   numbered_others stops = record {
-    latest = λ c x e. latest_same cs cs ss ps ps' _ _ _ (right.latest c x e);
+    latest = λ c x e. let at = right.latest c x e in record { here = at.here; last = at.last };
     earlier = right.earlier;
-    previous = λ s p x y e q f. next_same cs cs ss ps ps' _ _ _ _ _ (right.previous s p x y e q f);
-    starts = λ s x e q. starts_same cs cs ss ps ps' _ _ _ (right.starts s x e q);
+    previous = λ s p x y e q f. let on = right.previous s p x y e q f in record { here = on.here; there = on.there; later = on.later; none_between = on.none_between };
+    starts = λ s x e q. let at = right.starts s x e q in record { here = at.here; first = at.first };
     first_stop = λ k x e. (stops k x e).0;
     second_stop = λ k x e. (stops k x e).1;
   }

@@ -1,6 +1,7 @@
 -- What a carrier's record tells of the book.
 use Rattle.std.proofs.Common.{◌≡◌, ℕ, ◌↔◌, map, Some, subst, arith}
 use Rattle.std.specs.List.{slice_get}
+use Rattle.std.proofs.lemmas.List.{length-map}
 use Rattle.std.proofs.lemmas.Option.{slice_get_within}
 use Rattle.sheet.specs.declared.records.Carrier.{Carrier}
 use Rattle.sheet.specs.declared.sheets.Tables.{Tables}
@@ -49,6 +50,5 @@ module _ (t : Tables) (c : ℕ) (x : Carrier) (read : slice_get t.carriers c ≡
       λ reached. at_goal (book_of t) (sound_held _ sound) c _ _ _ _ goes_told latest_told reached,
     )
 
--- the first carrier's goal and the second one's start
-pub ends_told : (t : Tables) (first second : ℕ) (x y : Carrier) → slice_get t.carriers first ≡ Some x → slice_get t.carriers second ≡ Some y → (u : ℕ) → ((x.goal ≡ u) ↔ GoalOf (book_of t) first u) × ((y.start ≡ u) ↔ StartOf (book_of t) second u)
-ends_told t first second x y p q u = (goal_told t first x p u, start_told t second y q u)
+-- what the checks of a stop and of a precedence ask
+pub ruleset told = (known_told, start_told, goal_told, reached_told, length-map)

@@ -1,7 +1,7 @@
 // The sheet and its calls.
 ghost use Rattle.std.specs.Prelude.{◌≡◌, ◌<◌, ◌↔◌, length, Any, IsTrue, IfOk, IfErr, OnErr, OnOk};
 ghost use Rattle.std.specs.List.{slice_get};
-ghost use Rattle.sheet.specs.Book.{Visits, Stands, OnRoute, Decided, opened};
+ghost use Rattle.sheet.specs.Book.{Visits, Stands, StartOf, GoalOf, OnRoute, Decided, opened};
 ghost use Rattle.sheet.specs.Calls.{Unknown, CheckedBy, Checked, Answers, Leaves, pair_checks};
 ghost use Rattle.sheet.specs.Calls.Checks.{no_more};
 ghost use Rattle.sheet.specs.Calls.Call.{enter_carrier, enter_stop, enter_precedence, strike_precedence};
@@ -27,6 +27,7 @@ pub struct Tables {
 }
 
 // Whether a record has the wanted key.
+#[tactic(auto, using(crate::proofs::Found::has_told))]
 fn has<K, R: Keyed<K>>(records: &[R], wanted: &K) -> bool
     ensures { IsTrue result ↔ Any (λ x. R.Keyed.key x ≡ wanted.now) records.now }
 {
@@ -47,8 +48,8 @@ impl Tables {
 
     // The two carriers of a precedence, which are two and not one.
     fn pair(&self, order: Order) -> Result<(&Carrier, &Carrier), EntryRefusal>
-        ensures first { IfOk result (λ p. slice_get self.now.carriers order.first ≡ Some p.0.now) }
-        ensures second { IfOk result (λ p. slice_get self.now.carriers order.second ≡ Some p.1.now) }
+        ensures goal { IfOk result (λ p. (p.0.now.goal ≡ order.place) ↔ GoalOf (book_of self.now) order.first order.place) }
+        ensures start { IfOk result (λ p. (p.1.now.start ≡ order.place) ↔ StartOf (book_of self.now) order.second order.place) }
         ensures checked { CheckedBy (pair_checks (book_of self.now) order.first order.second no_more) result }
     {
         let first = self.carrier(order.first)?;
@@ -162,6 +163,7 @@ impl Sheet {
     }
 
     // Checks whether a stop may be entered.
+    #[tactic(auto, using(crate::proofs::Told::told))]
     fn check_stop(&self, visit: Visit) -> Result<(), EntryRefusal>
         ensures checked { Checked (sheet_book self.now) (enter_stop visit.carrier visit.place) result }
         ensures room { OnOk result ((visit.carrier < length (carriers_of self.now)) × (length (stops_of self.now) < 1024)) }
@@ -204,6 +206,7 @@ impl Sheet {
     }
 
     // Checks whether a precedence may be struck, and answers its index.
+    #[tactic(auto, using(crate::proofs::Found::precedence_found))]
     fn check_strike(&self, order: Order) -> Result<usize, EntryRefusal>
         ensures checked { Checked (sheet_book self.now) (strike_precedence order.first order.second order.place) result }
         ensures stands { IfOk result (λ k. Stands (sheet_book self.now) k order.first order.second order.place) }

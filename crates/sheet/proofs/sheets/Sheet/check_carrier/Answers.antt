@@ -1,7 +1,6 @@
 use Rattle.std.proofs.Common.{◌⊎◌, inl, inr, rules}
 use Rattle.std.proofs.lemmas.List.{length-map}
 use Rattle.sheet.specs.Calls.{StartTaken, GoalTaken}
-use Rattle.sheet.specs.Records.{book_carrier, book_stop}
 use Rattle.sheet.specs.Tables.{book_of}
 use Rattle.sheet.proofs.Found.{start_taken, goal_taken}
 use Rattle.sheet.proofs.sheets.Sheet.check_carrier.Goals as goal
@@ -10,8 +9,6 @@ use Rattle.sheet.proofs.sheets.Sheet.check_carrier.Goals.{then-has-via-then-has,
 pub returns-then-has-clause-checked : goal.returns-then-has-clause-checked
 returns-then-has-clause-checked c =
     let t = c.args.self.now.tables in
-    let n = length-map t.carriers book_carrier in
-    let m = length-map t.stops book_stop in
     let has_start = rw c.carriers-carriers.ensures at c.has.ensures in
     let taken : StartTaken (book_of t) c.args.start ⊎ GoalTaken (book_of t) c.args.goal = elim c.then-has.branch [
       | then-has-via-then-has w ↦ inl ((start_taken t c.args.start).0 (has_start.0 w.if-has.true))
@@ -19,13 +16,9 @@ returns-then-has-clause-checked c =
           let has_goal = rw c.carriers-carriers.ensures at w.has-else-has.ensures in
           inr ((goal_taken t c.args.goal).0 (has_goal.0 w.if-has-2.true))
     ] in
-    search rules depth 12
+    search (rules, length-map) depth 12
 
 pub returns-clause-checked : goal.returns-clause-checked
 returns-clause-checked c =
     let t = c.args.self.now.tables in
-    let n = length-map t.carriers book_carrier in
-    let m = length-map t.stops book_stop in
-    let start = start_taken t c.args.start in
-    let goal = goal_taken t c.args.goal in
-    search rules depth 12
+    search (rules, start_taken t c.args.start, goal_taken t c.args.goal, length-map) depth 12

@@ -1,4 +1,3 @@
-use Rattle.std.proofs.Common.{rules}
 use Rattle.sheet.specs.declared.refusal.EntryRefusal.TheVariants.{NothingToStrike}
 use Rattle.sheet.specs.Book.{Stands}
 use Rattle.sheet.specs.Tables.{book_of}
@@ -12,6 +11,3 @@ returns-clause-checked c =
     let o = c.args.order in
     let found = precedence_found t c.find.result o.first o.second o.place (rw c.precedences.ensures at c.find.ensures) in
     rw c.ok_or.ensures.value (checked_by_search (book_of t) o.first o.second c.in_ok-pair.ensures.checked (λ k. Stands (book_of t) k o.first o.second o.place) NothingToStrike c.find.result found)
-
-pub returns-clause-stands : goal.returns-clause-stands
-returns-clause-stands c = search (rules, precedence_found)
