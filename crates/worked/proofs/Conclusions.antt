@@ -83,7 +83,6 @@ ring? from l = list_all apart? (pairs (numbered l) (numbered l)) && list_all (λ
 a_ring : (Between : ℕ → ℕ → ℤ → Type 0) (from : ℕ) (ts : List ℕ) (w : ℤ) → Way Between from (from ∷ ts) from w → lt_z (pos 0) w ≡ true → ring? from (from ∷ ts) ≡ true → Ring Between (from ∷ ts)
 a_ring Between from ts w round above h =
     let l = from ∷ ts in
-    let At : ℕ × ℕ → Type 0 = λ p. slice_get l p.0 ≡ Some p.1 in
     let p = and_parts _ _ h in
     record {
       from = from;
@@ -91,9 +90,9 @@ a_ring Between from ts w round above h =
       round = round;
       above = record { lt = subst T (sym above) tt };
       distinct = λ i j s at there.
-          let passes = each_passes (λ (q : (ℕ × ℕ) × (ℕ × ℕ)). At q.0 × At q.1) (pairs (numbered l) (numbered l)) apart? (exactly_pairs At At (numbered l) (numbered l) (exactly_numbered l) (exactly_numbered l)) p.0 ((i, s), (j, s)) (at, there) in
+          let passes = each_passes apart? (exactly_pairs (exactly_numbered l) (exactly_numbered l)) p.0 ((i, s), (j, s)) (at, there) in
           grind (arith, nat_tests);
-      lowest_first = λ i s at. leb-true _ _ (each_passes At (numbered l) (λ q. leb from q.1) (exactly_numbered l) p.1 (i, s) at);
+      lowest_first = λ i s at. leb-true _ _ (each_passes (λ q. leb from q.1) (exactly_numbered l) p.1 (i, s) at);
     }
 
 -- nothing is in an empty list of pairs
@@ -127,7 +126,7 @@ module _ (y : Setting) (b : Book) where
 
   pub kept : (times : List ℕ) → kept? times ≡ true → Solution (Lag y.lanes y.gap b) (λ s. slice_index times s)
   kept times h s t w lag =
-      let e = each_passes (IsLag b y.lanes y.gap) all_lags (λ g. le_z (pos (slice_index times g.from) +ℤ g.weight) (pos (slice_index times g.to))) (exactly_lags b y.lanes y.gap) h (record { from = s; to = t; weight = w }) lag in
+      let e = each_passes _ (exactly_lags b y.lanes y.gap) h (record { from = s; to = t; weight = w }) lag in
       record { le = subst T (sym e) tt }
 
   -- a stop is not its carrier's first, or its arrival is 0
@@ -142,9 +141,9 @@ module _ (y : Setting) (b : Book) where
       let p : AStop = (s, record { carrier = c; place = u }) in
       ⊎_elim
       (λ e. eqb-true _ _ e)
-      (λ e. let r = (decides_some (IsStop b) (λ (q : AStop). (q.0 < s) × (q.1.carrier ≡ c)) (visits b) (earlier? p) (exactly_visits b) (λ q. search (rules, decided_numbers))).0 e in
+      (λ e. let r = (decides_some (λ (q : AStop). (q.0 < s) × (q.1.carrier ≡ c)) (earlier? p) (exactly_visits b) (λ q. search (rules, decided_numbers))).0 e in
       absurd (at.first r.0.0 r.0.1.place r.2.0 (subst (λ (z : ℕ). Visits b r.0.0 z r.0.1.place) r.2.1 r.1)))
-      (or_cases _ _ (each_passes (IsStop b) (visits b) (λ q. eqb (slice_index times q.0) 0 || list_any (earlier? q) (visits b)) (exactly_visits b) h p at.here))
+      (or_cases _ _ (each_passes _ (exactly_visits b) h p at.here))
 
   -- a ceiling whatever the rule's largest gap is
   abbrev top : ℕ
