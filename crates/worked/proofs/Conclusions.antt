@@ -34,45 +34,6 @@ zeros_under β [] v = omega arith
 zeros_under β (x ∷ xs) zero = omega arith
 zeros_under β (x ∷ xs) (suc v) = zeros_under (λ w. β (suc w)) xs v
 
--- a lag from s to t, by its weight
-abbrev joins : ℕ → ℕ → LagRecord → Bool
-joins s t g = eqb g.from s && eqb g.to t
-
-abbrev weight_between : List LagRecord → ℕ → ℕ → Option ℤ
-weight_between [] s t = None
-weight_between (g ∷ gs) s t = cond (joins s t g) (Some g.weight) (weight_between gs s t)
-
--- the sum of two weights, where both are there
-abbrev sum : Option ℤ → Option ℤ → Option ℤ
-sum None o = None
-sum (Some w) None = None
-sum (Some w) (Some x) = Some (w +ℤ x)
-
--- the sum of the lags from s through the listed nodes to r
-abbrev pub along : List LagRecord → ℕ → List ℕ → ℕ → Option ℤ
-along gs s [] r = weight_between gs s r
-along gs s (t ∷ ts) r = sum (weight_between gs s t) (along gs t ts r)
-
-module _ (Between : ℕ → ℕ → ℤ → Type 0) where
-  between : (gs : List LagRecord) → ((g : LagRecord) → Contains gs g → Between g.from g.to g.weight) → (s t : ℕ) (w : ℤ) → weight_between gs s t ≡ Some w → Between s t w
-  between [] each s t w e = absurd (none-some w e)
-  between (g ∷ gs) each s t w e = go (between gs (λ h k. each h (Contains-later g gs h k)) s t w) (joins s t g) refl e
-    where
-      go : (weight_between gs s t ≡ Some w → Between s t w) → (v : Bool) → joins s t g ≡ v → cond v (Some g.weight) (weight_between gs s t) ≡ Some w → Between s t w
-      go later true h q =
-          let p = and_parts _ _ h in
-          subst₃ Between (eqb-true _ _ p.0) (eqb-true _ _ p.1) (same_Some g.weight w q) (each g (Contains-here g gs))
-      go later false h q = later q
-
-  way : (gs : List LagRecord) → ((g : LagRecord) → Contains gs g → Between g.from g.to g.weight) → (s : ℕ) (ts : List ℕ) (r : ℕ) (w : ℤ) → along gs s ts r ≡ Some w → Way Between s (s ∷ ts) r w
-  way gs each s [] r w e = last (between gs each s r w e)
-  way gs each s (t ∷ ts) r w e = go (weight_between gs s t) (along gs t ts r) (between gs each s t) (way gs each t ts r) e
-    where
-      go : (o p : Option ℤ) → ((x : ℤ) → o ≡ Some x → Between s t x) → ((x : ℤ) → p ≡ Some x → Way Between t (t ∷ ts) r x) → sum o p ≡ Some w → Way Between s (s ∷ (t ∷ ts)) r w
-      go None p one rest q = absurd (none-some w q)
-      go (Some x) None one rest q = absurd (none-some w q)
-      go (Some x) (Some z) one rest q = subst (λ (v : ℤ). Way Between s (s ∷ (t ∷ ts)) r v) (same_Some (x +ℤ z) w q) (more (one x refl) (rest z refl))
-
 -- the nodes of a ring are distinct, and the first is the lowest
 abbrev apart? : (ℕ × ℕ) × (ℕ × ℕ) → Bool
 apart? p = not (eqb p.0.1 p.1.1) || eqb p.0.0 p.1.0
@@ -111,10 +72,6 @@ module _ (y : Setting) (b : Book) where
         λ lag. subst (λ hs. Listed hs s t w) e (l.every g lag),
         λ h. l.each g (subst (λ hs. Listed hs s t w) (sym e) h),
       )
-
-  -- a way along them
-  pub a_way : (s : ℕ) (ts : List ℕ) (r : ℕ) (w : ℤ) → along all_lags s ts r ≡ Some w → Way (Lag y.lanes y.gap b) s (s ∷ ts) r w
-  a_way = way (Lag y.lanes y.gap b) all_lags (exactly_lags b y.lanes y.gap).each
 
   -- the arrivals that the rounds give
   abbrev pub times_of : List ℕ
@@ -180,9 +137,9 @@ module _ (y : Setting) (b : Book) where
       none_opposed = none_in (Opposed y.lanes b) (opposed b y.lanes) (exactly_opposed b y.lanes) none
 
       -- stops wait for each other in a ring
-      pub finds_ring : (from : ℕ) (ts : List ℕ) (w : ℤ) → along all_lags from ts from ≡ Some w → lt_z (pos 0) w ≡ true → ring? from (from ∷ ts) ≡ true → Finds y b (in_a_ring (from ∷ ts))
-      finds_ring from ts w e above h =
-          let r = a_ring (Lag y.lanes y.gap b) from ts w (a_way from ts from w e) above h in
+      pub finds_ring : (from : ℕ) (ts : List ℕ) (w : ℤ) → Way (Lag y.lanes y.gap b) from (from ∷ ts) from w → lt_z (pos 0) w ≡ true → ring? from (from ∷ ts) ≡ true → Finds y b (in_a_ring (from ∷ ts))
+      finds_ring from ts w round above h =
+          let r = a_ring (Lag y.lanes y.gap b) from ts w round above h in
           ((whole y.lanes b tested).0, none_opposed, r, λ (α, good). decides.ring_none (from ∷ ts) r α good)
 
       -- the sheet passes
