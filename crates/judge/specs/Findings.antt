@@ -4,7 +4,7 @@ use Rattle.lags.specs.Ways.{Ring}
 use Rattle.sheet.specs.Book.{Book}
 use Rattle.plan.specs.Lags.{Lag}
 use Rattle.plan.specs.Plans.{Lanes, Gaps, Earliest, Possible, Complete, Opposed}
-use Rattle.judge.specs.Judged.{Away, CutOff, UndecidedAt}
+use Rattle.judge.specs.Judged.{Away, CutOff, UndecidedAt, AllHome, AllOnLanes, NoneOpposed}
 use Rattle.judge.specs.Lowest.{Lowest, LowestPair}
 
 -- where and how a sheet is judged: the yard's meaning, the rule's, and the largest gap that the rule names
@@ -28,15 +28,6 @@ pub data Finding : Type 0 where
   passes : List ℕ → Finding
 
 module _ (y : Setting) (b : Book) where
-  abbrev pub AllHome : Type 0
-  AllHome = (c : ℕ) → ¬ Away b c
-
-  abbrev pub AllOnLanes : Type 0
-  AllOnLanes = (t : ℕ) → ¬ CutOff y.lanes b t
-
-  abbrev pub NoneOpposed : Type 0
-  NoneOpposed = (s t : ℕ) → ¬ Opposed y.lanes b s t
-
   -- no timed plan keeps every standing precedence and is free of conflict
   abbrev pub Impossible : Type 0
   Impossible = ¬ Possible y.lanes y.gap b
@@ -50,8 +41,8 @@ module _ (y : Setting) (b : Book) where
   -- the checks in their order: each finding with the lowest numbers to which it applies, and none of those before it
   abbrev pub Finds : Finding → Type 0
   Finds (not_at_goal c) = Lowest (Away b) c
-  Finds (no_lane t) = AllHome × Lowest (CutOff y.lanes b) t
-  Finds (undecided s t) = AllHome × AllOnLanes × LowestPair (UndecidedAt b) s t
+  Finds (no_lane t) = AllHome b × Lowest (CutOff y.lanes b) t
+  Finds (undecided s t) = AllHome b × AllOnLanes y.lanes b × LowestPair (UndecidedAt b) s t
   Finds (head_on s t) = Complete y.lanes b × LowestPair (Opposed y.lanes b) s t × Impossible
-  Finds (in_a_ring stops) = Complete y.lanes b × NoneOpposed × Ring (Lag y.lanes y.gap b) stops × Impossible
+  Finds (in_a_ring stops) = Complete y.lanes b × NoneOpposed y.lanes b × Ring (Lag y.lanes y.gap b) stops × Impossible
   Finds (passes times) = Complete y.lanes b × EarliestTimes times

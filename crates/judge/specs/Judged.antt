@@ -54,16 +54,23 @@ pub record UndecidedAt (b : Book) (s t : ℕ) : Type 0 where
   pub later : s < t
   pub nobody_first : ¬ Decided b c e u
 
+-- every carrier's route has reached its goal
+abbrev pub AllHome : Book → Type 0
+AllHome b = (c : ℕ) → ¬ Away b c
+
+module _ (lanes : Lanes) (b : Book) where
+  -- a lane leads to every stop from the one before it
+  abbrev pub AllOnLanes : Type 0
+  AllOnLanes = (t : ℕ) → ¬ CutOff lanes b t
+
+  -- no two stops are set head on
+  abbrev pub NoneOpposed : Type 0
+  NoneOpposed = (s t : ℕ) → ¬ Opposed lanes b s t
+
 module _ (j : Judging) (b : Book) where
   -- both pages have a number for each stop
   abbrev pub Long : Type 0
   Long = (length b.stops ≤ length j.pages.timetable) × (length b.stops ≤ length j.pages.ring)
-
-  abbrev pub AllHome : Type 0
-  AllHome = (c : ℕ) → ¬ Away b c
-
-  abbrev pub AllOnLanes : Type 0
-  AllOnLanes = (t : ℕ) → ¬ CutOff j.lanes b t
 
   -- the first numbers of the timetable are the earliest arrivals, and everything else on the pages stands
   pub record Passes (n : ℕ) : Type 0 where
@@ -87,10 +94,10 @@ module _ (j : Judging) (b : Book) where
   abbrev pub Answers : Result ℕ JudgeRefusal → Type 0
   Answers (Err PageTooShort) = ¬ Long × Untouched j.pages
   Answers (Err (NotAtGoal c)) = Long × Lowest (Away b) c × Untouched j.pages
-  Answers (Err (NoLane t)) = Long × AllHome × Lowest (CutOff j.lanes b) t × Untouched j.pages
-  Answers (Err (Undecided s t)) = Long × AllHome × AllOnLanes × LowestPair (UndecidedAt b) s t × Untouched j.pages
+  Answers (Err (NoLane t)) = Long × AllHome b × Lowest (CutOff j.lanes b) t × Untouched j.pages
+  Answers (Err (Undecided s t)) = Long × AllHome b × AllOnLanes j.lanes b × LowestPair (UndecidedAt b) s t × Untouched j.pages
   Answers (Err (HeadOn s t)) = Long × Complete j.lanes b × LowestPair (Opposed j.lanes b) s t × ¬ Possible j.lanes j.gap b × Untouched j.pages
-  Answers (Err (Ring k)) = Long × Complete j.lanes b × ((s t : ℕ) → ¬ Opposed j.lanes b s t) × ¬ Possible j.lanes j.gap b × WaitsInARing k
+  Answers (Err (Ring k)) = Long × Complete j.lanes b × NoneOpposed j.lanes b × ¬ Possible j.lanes j.gap b × WaitsInARing k
   Answers (Ok n) = Long × Complete j.lanes b × Possible j.lanes j.gap b × Passes n
 
   abbrev pub Judged : Type 0

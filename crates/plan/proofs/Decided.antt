@@ -1,6 +1,5 @@
 -- A good plan keeps every lag, and a plan that keeps every lag is good unless two stops are set head on.
-use Rattle.std.proofs.Common.{ℕ, ◌+◌, ◌-◌, ◌<◌, ◌≤◌, ◌≢◌, pos, ⊎_elim, arith}
-use native.Mathlib.Decide.{dec_lt}
+use Rattle.std.proofs.Common.{ℕ, ◌+◌, ◌-◌, ◌<◌, ◌≤◌, min, pos, ⊎_elim, arith}
 use Rattle.std.proofs.lemmas.Int.{ints}
 use Rattle.lags.specs.Ways.{Solution}
 use Rattle.lags.proofs.Ways.{ring_excludes}
@@ -16,10 +15,8 @@ module _ (lanes : Lanes) (gap : Gaps) (b : Book) (positive : Positive lanes) (or
   keeps_lags α good s t w (wait k {first = first} {second = second} {s = o} {u = u} {v = v} {d = d} stands leg visits) =
       let before : α s - d < α t = good.keeps k first second u o s v d t stands leg visits in
       let timed : α o + d ≤ α s = good.timed.travels first o u s v d leg in
-      elim (dec_lt (α s - d + gap u v d) (α t)) [
-        | yes late ↦ omega (arith, ints)
-        | no soon ↦ absurd (good.free (following first second o u s v d t (orderly.differ k first second u stands) leg visits before (omega arith)))
-      ]
+      let late : ¬ α t ≤ α s - d + gap u v d = λ soon. good.free (following first second o u s v d t (orderly.differ k first second u stands) leg visits before soon) in
+      omega (arith, ints)
 
   -- where two stops are set head on, no plan is good
   no_plan : (s t : ℕ) → Opposed lanes b s t → (α : ℕ → ℕ) → ¬ Good lanes gap b α
@@ -28,23 +25,17 @@ module _ (lanes : Lanes) (gap : Gaps) (b : Book) (positive : Positive lanes) (or
       let e = o.e in
       let u = o.u in
       let v = o.v in
-      let q = o.s_goes.0 in
-      let d = o.s_goes.1 in
-      let leg = o.s_goes.2 in
-      let r = o.t_goes.0 in
-      let d' = o.t_goes.1 in
-      let back = o.t_goes.2 in
-      let other : c ≢ e = orderly.differ o.first_at_u.0 c e u o.first_at_u.1 in
-      let c_leaves : α q - d < α r = good.keeps o.first_at_u.0 c e u s q v d r o.first_at_u.1 leg back.next.there in
-      let e_leaves : α r - d' < α q = good.keeps o.first_at_v.0 e c v t r u d' q o.first_at_v.1 back leg.next.there in
+      let (q, d, leg) = o.s_goes in
+      let (r, d', back) = o.t_goes in
+      let (k, c_first) = o.first_at_u in
+      let (l, e_first) = o.first_at_v in
+      let c_leaves : α q - d < α r = good.keeps k c e u s q v d r c_first leg back.next.there in
+      let e_leaves : α r - d' < α q = good.keeps l e c v t r u d' q e_first back leg.next.there in
       let long : 1 ≤ d = positive u v d leg.lane in
       let long' : 1 ≤ d' = positive v u d' back.lane in
       let way : α s + d ≤ α q = good.timed.travels c s u q v d leg in
       let yaw : α t + d' ≤ α r = good.timed.travels e t v r u d' back in
-      elim (dec_lt (α q) (α r)) [
-        | yes h ↦ good.free (head_on c e s u q v d t r d' (α q) other leg back (omega arith) (omega arith) (omega arith) (omega arith))
-        | no h ↦ good.free (head_on c e s u q v d t r d' (α r) other leg back (omega arith) (omega arith) (omega arith) (omega arith))
-      ]
+      good.free (head_on c e s u q v d t r d' (min (α q) (α r)) (orderly.differ k c e u c_first) leg back (omega arith) (omega arith) (omega arith) (omega arith))
 
   module _ (α : ℕ → ℕ) (starts : FromZero b α) (kept : Solution (Lag lanes gap b) α) where
     timed : Timed lanes b α
@@ -77,7 +68,6 @@ module _ (lanes : Lanes) (gap : Gaps) (b : Book) (positive : Positive lanes) (or
       gone k c e s r u tick stands here there stays late =
           let p = passes k c e s r u stands here there in
           let till = stays p.0 p.1 p.2 p.3.0 in
-          let then = p.3.1 in
           omega arith
 
       free : ¬ Conflict lanes gap b α
@@ -94,7 +84,6 @@ module _ (lanes : Lanes) (gap : Gaps) (b : Book) (positive : Positive lanes) (or
           (λ first. let p = passes k.0 e c r s u first there leg.next.here in
           let way = timed.travels c s u t v d leg in
           let q = timed.travels e r u p.0 p.1 p.2 p.3.0 in
-          let then = p.3.1 in
           omega arith)
           k.1
       free (head_on c e s u t v d r q d' tick other leg back a1 a2 b1 b2) =
@@ -104,7 +93,7 @@ module _ (lanes : Lanes) (gap : Gaps) (b : Book) (positive : Positive lanes) (or
           let yaw = timed.travels e r v q u d' back in
           ⊎_elim
           (λ c_first. ⊎_elim
-          (λ first. let p = passes at_v.0 c e t r v first leg.next.there back.next.here in let then = p.3.1 in omega arith)
+          (λ first. let p = passes at_v.0 c e t r v first leg.next.there back.next.here in omega arith)
           (λ e_first. not_opposed s r (record {
             c = c;
             e = e;
@@ -116,7 +105,7 @@ module _ (lanes : Lanes) (gap : Gaps) (b : Book) (positive : Positive lanes) (or
             first_at_v = (at_v.0, e_first);
           }))
           at_v.1)
-          (λ first. let p = passes at_u.0 e c q s u first back.next.there leg.next.here in let then = p.3.1 in omega arith)
+          (λ first. let p = passes at_u.0 e c q s u first back.next.there leg.next.here in omega arith)
           at_u.1
 
       good : Good lanes gap b α

@@ -34,45 +34,6 @@ zeros_under β [] v = omega arith
 zeros_under β (x ∷ xs) zero = omega arith
 zeros_under β (x ∷ xs) (suc v) = zeros_under (λ w. β (suc w)) xs v
 
--- a lag from s to t, by its weight
-abbrev joins : ℕ → ℕ → LagRecord → Bool
-joins s t g = eqb g.from s && eqb g.to t
-
-abbrev weight_between : List LagRecord → ℕ → ℕ → Option ℤ
-weight_between [] s t = None
-weight_between (g ∷ gs) s t = cond (joins s t g) (Some g.weight) (weight_between gs s t)
-
--- the sum of two weights, where both are there
-abbrev sum : Option ℤ → Option ℤ → Option ℤ
-sum None o = None
-sum (Some w) None = None
-sum (Some w) (Some x) = Some (w +ℤ x)
-
--- the sum of the lags from s through the listed nodes to r
-abbrev pub along : List LagRecord → ℕ → List ℕ → ℕ → Option ℤ
-along gs s [] r = weight_between gs s r
-along gs s (t ∷ ts) r = sum (weight_between gs s t) (along gs t ts r)
-
-module _ (Between : ℕ → ℕ → ℤ → Type 0) where
-  between : (gs : List LagRecord) → ((g : LagRecord) → Contains gs g → Between g.from g.to g.weight) → (s t : ℕ) (w : ℤ) → weight_between gs s t ≡ Some w → Between s t w
-  between [] each s t w e = absurd (none-some w e)
-  between (g ∷ gs) each s t w e = go (between gs (λ h k. each h (Contains-later g gs h k)) s t w) (joins s t g) refl e
-    where
-      go : (weight_between gs s t ≡ Some w → Between s t w) → (v : Bool) → joins s t g ≡ v → cond v (Some g.weight) (weight_between gs s t) ≡ Some w → Between s t w
-      go later true h q =
-          let p = and_parts _ _ h in
-          subst₃ Between (eqb-true _ _ p.0) (eqb-true _ _ p.1) (same_Some g.weight w q) (each g (Contains-here g gs))
-      go later false h q = later q
-
-  way : (gs : List LagRecord) → ((g : LagRecord) → Contains gs g → Between g.from g.to g.weight) → (s : ℕ) (ts : List ℕ) (r : ℕ) (w : ℤ) → along gs s ts r ≡ Some w → Way Between s (s ∷ ts) r w
-  way gs each s [] r w e = last (between gs each s r w e)
-  way gs each s (t ∷ ts) r w e = go (weight_between gs s t) (along gs t ts r) (between gs each s t) (way gs each t ts r) e
-    where
-      go : (o p : Option ℤ) → ((x : ℤ) → o ≡ Some x → Between s t x) → ((x : ℤ) → p ≡ Some x → Way Between t (t ∷ ts) r x) → sum o p ≡ Some w → Way Between s (s ∷ (t ∷ ts)) r w
-      go None p one rest q = absurd (none-some w q)
-      go (Some x) None one rest q = absurd (none-some w q)
-      go (Some x) (Some z) one rest q = subst (λ (v : ℤ). Way Between s (s ∷ (t ∷ ts)) r v) (same_Some (x +ℤ z) w q) (more (one x refl) (rest z refl))
-
 -- the nodes of a ring are distinct, and the first is the lowest
 abbrev apart? : (ℕ × ℕ) × (ℕ × ℕ) → Bool
 apart? p = not (eqb p.0.1 p.1.1) || eqb p.0.0 p.1.0
@@ -83,7 +44,6 @@ ring? from l = list_all apart? (pairs (numbered l) (numbered l)) && list_all (λ
 a_ring : (Between : ℕ → ℕ → ℤ → Type 0) (from : ℕ) (ts : List ℕ) (w : ℤ) → Way Between from (from ∷ ts) from w → lt_z (pos 0) w ≡ true → ring? from (from ∷ ts) ≡ true → Ring Between (from ∷ ts)
 a_ring Between from ts w round above h =
     let l = from ∷ ts in
-    let At : ℕ × ℕ → Type 0 = λ p. slice_get l p.0 ≡ Some p.1 in
     let p = and_parts _ _ h in
     record {
       from = from;
@@ -91,9 +51,9 @@ a_ring Between from ts w round above h =
       round = round;
       above = record { lt = subst T (sym above) tt };
       distinct = λ i j s at there.
-          let passes = each_passes (λ (q : (ℕ × ℕ) × (ℕ × ℕ)). At q.0 × At q.1) (pairs (numbered l) (numbered l)) apart? (exactly_pairs At At (numbered l) (numbered l) (exactly_numbered l) (exactly_numbered l)) p.0 ((i, s), (j, s)) (at, there) in
+          let passes = each_passes apart? (exactly_pairs (exactly_numbered l) (exactly_numbered l)) p.0 ((i, s), (j, s)) (at, there) in
           grind (arith, nat_tests);
-      lowest_first = λ i s at. leb-true _ _ (each_passes At (numbered l) (λ q. leb from q.1) (exactly_numbered l) p.1 (i, s) at);
+      lowest_first = λ i s at. leb-true _ _ (each_passes (λ q. leb from q.1) (exactly_numbered l) p.1 (i, s) at);
     }
 
 -- nothing is in an empty list of pairs
@@ -113,10 +73,6 @@ module _ (y : Setting) (b : Book) where
         λ h. l.each g (subst (λ hs. Listed hs s t w) (sym e) h),
       )
 
-  -- a way along them
-  pub a_way : (s : ℕ) (ts : List ℕ) (r : ℕ) (w : ℤ) → along all_lags s ts r ≡ Some w → Way (Lag y.lanes y.gap b) s (s ∷ ts) r w
-  a_way = way (Lag y.lanes y.gap b) all_lags (exactly_lags b y.lanes y.gap).each
-
   -- the arrivals that the rounds give
   abbrev pub times_of : List ℕ
   times_of = rounds (length b.stops) all_lags (map (λ (x : BookStop). 0) b.stops)
@@ -127,7 +83,7 @@ module _ (y : Setting) (b : Book) where
 
   pub kept : (times : List ℕ) → kept? times ≡ true → Solution (Lag y.lanes y.gap b) (λ s. slice_index times s)
   kept times h s t w lag =
-      let e = each_passes (IsLag b y.lanes y.gap) all_lags (λ g. le_z (pos (slice_index times g.from) +ℤ g.weight) (pos (slice_index times g.to))) (exactly_lags b y.lanes y.gap) h (record { from = s; to = t; weight = w }) lag in
+      let e = each_passes _ (exactly_lags b y.lanes y.gap) h (record { from = s; to = t; weight = w }) lag in
       record { le = subst T (sym e) tt }
 
   -- a stop is not its carrier's first, or its arrival is 0
@@ -142,9 +98,9 @@ module _ (y : Setting) (b : Book) where
       let p : AStop = (s, record { carrier = c; place = u }) in
       ⊎_elim
       (λ e. eqb-true _ _ e)
-      (λ e. let r = (decides_some (IsStop b) (λ (q : AStop). (q.0 < s) × (q.1.carrier ≡ c)) (visits b) (earlier? p) (exactly_visits b) (λ q. search (rules, decided_numbers))).0 e in
+      (λ e. let r = (decides_some (λ (q : AStop). (q.0 < s) × (q.1.carrier ≡ c)) (earlier? p) (exactly_visits b) (λ q. search (rules, decided_numbers))).0 e in
       absurd (at.first r.0.0 r.0.1.place r.2.0 (subst (λ (z : ℕ). Visits b r.0.0 z r.0.1.place) r.2.1 r.1)))
-      (or_cases _ _ (each_passes (IsStop b) (visits b) (λ q. eqb (slice_index times q.0) 0 || list_any (earlier? q) (visits b)) (exactly_visits b) h p at.here))
+      (or_cases _ _ (each_passes _ (exactly_visits b) h p at.here))
 
   -- a ceiling whatever the rule's largest gap is
   abbrev top : ℕ
@@ -181,9 +137,9 @@ module _ (y : Setting) (b : Book) where
       none_opposed = none_in (Opposed y.lanes b) (opposed b y.lanes) (exactly_opposed b y.lanes) none
 
       -- stops wait for each other in a ring
-      pub finds_ring : (from : ℕ) (ts : List ℕ) (w : ℤ) → along all_lags from ts from ≡ Some w → lt_z (pos 0) w ≡ true → ring? from (from ∷ ts) ≡ true → Finds y b (in_a_ring (from ∷ ts))
-      finds_ring from ts w e above h =
-          let r = a_ring (Lag y.lanes y.gap b) from ts w (a_way from ts from w e) above h in
+      pub finds_ring : (from : ℕ) (ts : List ℕ) (w : ℤ) → Way (Lag y.lanes y.gap b) from (from ∷ ts) from w → lt_z (pos 0) w ≡ true → ring? from (from ∷ ts) ≡ true → Finds y b (in_a_ring (from ∷ ts))
+      finds_ring from ts w round above h =
+          let r = a_ring (Lag y.lanes y.gap b) from ts w round above h in
           ((whole y.lanes b tested).0, none_opposed, r, λ (α, good). decides.ring_none (from ∷ ts) r α good)
 
       -- the sheet passes

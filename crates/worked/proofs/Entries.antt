@@ -44,7 +44,7 @@ decides_somewhere {A} t Q d xs =
     Decides-like _
     (λ r. (r.0.0, r.0.1, r.1, r.2))
     (λ r. ((r.0, r.1), r.2, r.3))
-    (decides_some (λ (p : ℕ × A). slice_get xs p.0 ≡ Some p.1) (λ (p : ℕ × A). Q p.1) (numbered xs) (λ p. t p.1) (exactly_numbered xs) (λ p. d p.1))
+    (decides_some {A = ℕ × A} (λ p. Q p.1) (λ p. t p.1) (exactly_numbered xs) (λ p. d p.1))
 
 -- something equal to a value does
 decides_standing_value : {A : Type 0} (t : A → Bool) (v : A) → ((x : A) → Decides (t x) (x ≡ v)) → (xs : List A) → Decides (somewhere? t xs) ((k : ℕ) × (slice_get xs k ≡ Some v))

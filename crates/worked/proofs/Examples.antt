@@ -1,5 +1,6 @@
 -- The worked examples come out.
-use Rattle.std.proofs.Common.{ℕ, ◌≤◌, Bool, cond, [], ◌∷◌, pos, negsuc, Some, Ok, Err, refl, ap, arith, rules, lit<, lit≤}
+use Rattle.std.specs.List.{Contains}
+use Rattle.std.proofs.Common.{ℕ, ◌+◌, ◌≤◌, Bool, cond, [], ◌∷◌, pos, ◌+ℤ◌, ◌-ℤ◌, negsuc, Some, Ok, Err, refl, ap, arith, rules, lit<, lit≤}
 use Rattle.std.proofs.lemmas.Bool.{le-ltb}
 use Rattle.lane_yard.specs.declared.refusal.LayRefusal.TheVariants.{BadLane, NotRising}
 use Rattle.lane_yard.specs.Records.{lane}
@@ -7,15 +8,18 @@ use Rattle.sheet.specs.declared.refusal.EntryRefusal.TheVariants.{RouteAtGoal, P
 use Rattle.sheet.specs.Book.{opened}
 use Rattle.sheet.specs.Calls.{enter_carrier, enter_stop}
 use Rattle.sheet.specs.Histories.{History, opening, ◌▹◌}
+use Rattle.lags.specs.Ways.{Way}
+use Rattle.lags.specs.Ways.Way.{last, more}
+use Rattle.plan.specs.Lags.{wait}
 use Rattle.plan.specs.Plans.{Gaps, Leg, head_on as meet_head_on}
 use Rattle.plan.specs.Theorems.{Positive}
 use Rattle.judge.specs.Findings.{Setting, passes}
 use Rattle.judge.specs.FindingHistories.{Event, entered, judged, Lawful}
-use Rattle.worked.specs.Examples.{under, full_lane, lane_less_one, fixed_gap, lanes_of_P, P, S, S_struck, S_turned, judges_S, turns_S, LagsOfS, HeadOnApart, triangle_lanes, triangle, judges_triangle, triangle_sheet, judges_one, one_sheet, first_calls, first_sheet, grid, LittleGrid, TwoRows, ListsOfLanes, Examples}
-use Rattle.worked.proofs.Steps.{exactly_legs}
+use Rattle.worked.specs.Examples.{LagIn, under, full_lane, lane_less_one, fixed_gap, lanes_of_P, P, S, S_struck, S_turned, judges_S, turns_S, LagsOfS, HeadOnApart, triangle_lanes, triangle, judges_triangle, triangle_sheet, judges_one, one_sheet, first_calls, first_sheet, grid, LittleGrid, TwoRows, ListsOfLanes, Examples}
+use Rattle.worked.proofs.Steps.{ALeg, IsLeg, legs, exactly_legs}
 use Rattle.worked.proofs.Entries.{left}
 use Rattle.worked.proofs.Histories.{Conclusions, lawful}
-use Rattle.worked.proofs.Conclusions.{the_lags, a_way, kept, finds_undecided, finds_head_on, finds_ring, finds_passes}
+use Rattle.worked.proofs.Conclusions.{the_lags, kept, finds_undecided, finds_head_on, finds_ring, finds_passes}
 use Rattle.worked.proofs.Yards as yards
 
 P_positive : Positive P
@@ -55,19 +59,32 @@ there = (exactly_legs S_turned P).each (record { c = 0; s = 2; u = 1; t = 3; v =
 back : Leg P S_turned 1 1 2 5 1 2
 back = (exactly_legs S_turned P).each (record { c = 1; s = 1; u = 2; t = 5; v = 1 }, 2) (1, lit< tt, refl)
 
+-- the ring of what carrier 1 waits for carrier 0 at place 1, and of what carrier 0 waits for carrier 1 at place 2
+S_ring : (gap : Gaps) (largest : ℕ) → Way (LagIn (under gap largest P) S_turned) 3 (3 ∷ 5 ∷ []) 3 ((pos (gap 1 2 2 + 1) -ℤ pos 2) +ℤ (pos (gap 2 1 2 + 1) -ℤ pos 2))
+S_ring gap largest = more (wait 1 refl there refl) (last (wait 0 refl back refl))
+
 head_on_apart : HeadOnApart
 head_on_apart = record {
-  sum_full_lane = a_way (full_lane P) S_turned 3 (5 ∷ []) 3 (pos 2) refl;
-  sum_lane_less_one = a_way (lane_less_one P) S_turned 3 (5 ∷ []) 3 (pos 0) refl;
-  sum_fixed_gap_0 = a_way (fixed_gap 0 P) S_turned 3 (5 ∷ []) 3 (negsuc 1) refl;
-  sum_fixed_gap_1 = a_way (fixed_gap 1 P) S_turned 3 (5 ∷ []) 3 (pos 0) refl;
+  sum_full_lane = S_ring (full_lane P).gap 36000;
+  sum_lane_less_one = S_ring (lane_less_one P).gap 35999;
+  sum_fixed_gap_0 = S_ring (fixed_gap 0 P).gap 36000;
+  sum_fixed_gap_1 = S_ring (fixed_gap 1 P).gap 36000;
   kept = kept (lane_less_one P) S_turned (0 ∷ 0 ∷ 3 ∷ 5 ∷ 9 ∷ 5 ∷ 10 ∷ []) refl;
   conflict = meet_head_on 0 1 2 1 3 2 2 1 5 2 4 (λ e. omega arith) there back (lit< tt) (lit≤ tt) (lit< tt) (lit≤ tt);
 }
 
+-- the ring of what each carrier waits for the next
+triangle_ring : (gap : Gaps) (largest : ℕ) → Way (LagIn (under gap largest triangle) triangle_sheet) 3 (3 ∷ 5 ∷ 4 ∷ []) 3 ((pos (gap 0 1 1 + 1) -ℤ pos 1) +ℤ ((pos (gap 2 0 1 + 1) -ℤ pos 1) +ℤ (pos (gap 1 2 1 + 1) -ℤ pos 1)))
+triangle_ring gap largest =
+    let goes : (l : ALeg) → Contains (legs triangle_sheet triangle) l → IsLeg triangle_sheet triangle l = (exactly_legs triangle_sheet triangle).each in
+    let first = goes (record { c = 0; s = 0; u = 0; t = 3; v = 1 }, 1) (0, lit< tt, refl) in
+    let second = goes (record { c = 1; s = 1; u = 1; t = 4; v = 2 }, 1) (1, lit< tt, refl) in
+    let third = goes (record { c = 2; s = 2; u = 2; t = 5; v = 0 }, 1) (2, lit< tt, refl) in
+    more (wait 2 refl first refl) (more (wait 1 refl third refl) (last (wait 0 refl second refl)))
+
 triangle_judged : Lawful judges_triangle triangle_sheet
 triangle_judged =
-    let ring = finds_ring (full_lane triangle) triangle_sheet triangle_positive refl refl 3 (5 ∷ 4 ∷ []) (pos 3) refl refl refl in
+    let ring = finds_ring (full_lane triangle) triangle_sheet triangle_positive refl refl 3 (5 ∷ 4 ∷ []) (pos 3) (triangle_ring (full_lane triangle).gap 36000) refl refl in
     let passes = finds_passes (lane_less_one triangle) triangle_sheet triangle_positive refl refl _ refl refl in
     lawful judges_triangle triangle_sheet refl refl ((tt, (lit≤ tt, ring)), (lit≤ tt, passes))
 
@@ -135,8 +152,8 @@ examples = record {
   triangle_judged = triangle_judged;
   lags_full_lane = the_lags (full_lane triangle) triangle_sheet _ refl;
   lags_lane_less_one = the_lags (lane_less_one triangle) triangle_sheet _ refl;
-  ring_sum_full_lane = a_way (full_lane triangle) triangle_sheet 3 (5 ∷ 4 ∷ []) 3 (pos 3) refl;
-  ring_sum_lane_less_one = a_way (lane_less_one triangle) triangle_sheet 3 (5 ∷ 4 ∷ []) 3 (pos 0) refl;
+  ring_sum_full_lane = triangle_ring (full_lane triangle).gap 36000;
+  ring_sum_lane_less_one = triangle_ring (lane_less_one triangle).gap 35999;
   nobody = nobody;
   one_that_stays = λ y u positive h. one_that_stays y positive u h;
   firsts = firsts;

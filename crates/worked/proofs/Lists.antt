@@ -25,26 +25,27 @@ module _ {A : Type 0} where
   Contains-cases y ys x (zero, l, e) = inl e
   Contains-cases y ys x (suc k, l, e) = inr (k, omega arith, e)
 
+  pub Contains-only : (y x : A) → Contains (y ∷ []) x → y ≡ x
+  Contains-only y x (zero, l, e) = e
+  Contains-only y x (suc k, l, e) = absurd (omega arith)
+
   -- one list after another
-  pub exactly_append : (P Q R : A → Type 0) (xs ys : List A) → Exactly P xs → Exactly Q ys → ((x : A) → P x → R x) → ((x : A) → Q x → R x) → ((x : A) → R x → P x ⊎ Q x) → Exactly R (xs ++ ys)
-  exactly_append P Q R xs ys p q left right either = record {
+  pub exactly_append : {P Q R : A → Type 0} {xs ys : List A} → Exactly P xs → Exactly Q ys → ((x : A) → P x → R x) → ((x : A) → Q x → R x) → ((x : A) → R x → P x ⊎ Q x) → Exactly R (xs ++ ys)
+  exactly_append {xs = xs} {ys = ys} p q left right either = record {
     each = λ x h. ⊎_elim (λ k. left x (p.each x k)) (λ k. right x (q.each x k)) (Contains-append_cases xs ys x h);
     every = λ x r. ⊎_elim (λ k. Contains-append_left xs ys x (p.every x k)) (λ k. Contains-append_right xs ys x (q.every x k)) (either x r);
   }
 
-  pub list_any-from_Contains : (t : A → Bool) (xs : List A) (x : A) → Contains xs x → t x ≡ true → list_any t xs ≡ true
-  list_any-from_Contains t xs x (k, l, e) h = list_any_at t xs k x l (ap t e ∙ h)
-
   -- some of what the list contains exactly passes a test
-  pub decides_some : (P Q : A → Type 0) (xs : List A) (t : A → Bool) → Exactly P xs → ((x : A) → Decides (t x) (Q x)) → Decides (list_any t xs) ((x : A) × P x × Q x)
-  decides_some P Q xs t l d = (
+  pub decides_some : {P : A → Type 0} {xs : List A} (Q : A → Type 0) (t : A → Bool) → Exactly P xs → ((x : A) → Decides (t x) (Q x)) → Decides (list_any t xs) ((x : A) × P x × Q x)
+  decides_some {xs = xs} Q t l d = (
     λ h. let r = Any-from_list_any t xs h in (r.1, l.each r.1 (r.0, r.2, r.3), (d r.1).0 r.4),
-    λ r. list_any-from_Contains t xs r.0 (l.every r.0 r.1) ((d r.0).1 r.2),
+    λ r. let (k, l, e) = l.every r.0 r.1 in list_any_at t xs k r.0 l (ap t e ∙ (d r.0).1 r.2),
   )
 
   -- all of it does
-  pub each_passes : (P : A → Type 0) (xs : List A) (t : A → Bool) → Exactly P xs → list_all t xs ≡ true → (x : A) → P x → t x ≡ true
-  each_passes P xs t l h x p = All-contains (λ y. t y ≡ true) xs x (AllPass-from_list_all t xs h) (l.every x p)
+  pub each_passes : {P : A → Type 0} {xs : List A} (t : A → Bool) → Exactly P xs → list_all t xs ≡ true → (x : A) → P x → t x ≡ true
+  each_passes {xs = xs} t l h x p = All-contains (λ y. t y ≡ true) xs x (AllPass-from_list_all t xs h) (l.every x p)
 
   -- the elements with their numbers
   abbrev pub numbered : List A → List (ℕ × A)
@@ -97,58 +98,33 @@ from_flat_map f (x ∷ xs) y h =
     (λ k. let r = from_flat_map f xs y k in (r.0, Contains-later x xs r.0 r.1, r.2))
     (Contains-append_cases (f x) (flat_map f xs) y h)
 
+-- what comes of what a list contains exactly
+pub exactly_flat_map : {A B : Type 0} {P : A → Type 0} {xs : List A} (R : B → Type 0) (f : A → List B) → Exactly P xs → ((x : A) (y : B) → P x → Contains (f x) y → R y) → ((y : B) → R y → (x : A) × P x × Contains (f x) y) → Exactly R (flat_map f xs)
+exactly_flat_map {xs = xs} R f l to from = record {
+  each = λ y h. let r = from_flat_map f xs y h in to r.0 y (l.each r.0 r.1) r.2;
+  every = λ y q. let r = from y q in Contains-flat_map f xs r.0 y (l.every r.0 r.1) r.2;
+}
+
 -- each of the one with each of the other
 abbrev pub pairs : {A B : Type 0} → List A → List B → List (A × B)
 pairs {A} {B} xs ys = flat_map {A = A × B} (λ x. flat_map {A = A × B} (λ y. (x, y) ∷ []) ys) xs
 
-pub exactly_pairs : {A B : Type 0} (P : A → Type 0) (Q : B → Type 0) (xs : List A) (ys : List B) → Exactly P xs → Exactly Q ys → Exactly (λ (p : A × B). P p.0 × Q p.1) (pairs xs ys)
-exactly_pairs {A} {B} P Q xs ys l m = record {
-  each = λ p h.
-      let r = from_flat_map {B = A × B} (λ x. flat_map {A = A × B} (λ y. (x, y) ∷ []) ys) xs p h in
-      let s = from_flat_map {B = A × B} (λ y. (r.0, y) ∷ []) ys p r.2 in
-      let e : ◌≡◌ {A = A × B} (r.0, s.0) p = ⊎_elim (λ k. k) (λ (k, z, e). absurd (omega arith)) (Contains-cases {A = A × B} (r.0, s.0) [] p s.2) in
-      subst (λ (q : A × B). P q.0 × Q q.1) e (l.each r.0 r.1, m.each s.0 s.1);
-  every = λ p h. Contains-flat_map {B = A × B} (λ x. flat_map {A = A × B} (λ y. (x, y) ∷ []) ys) xs p.0 p (l.every p.0 h.0) (Contains-flat_map {B = A × B} (λ y. (p.0, y) ∷ []) ys p.1 p (m.every p.1 h.1) (Contains-here {A = A × B} p []));
-}
+pub exactly_pairs : {A B : Type 0} {P : A → Type 0} {Q : B → Type 0} {xs : List A} {ys : List B} → Exactly P xs → Exactly Q ys → Exactly (λ (p : A × B). P p.0 × Q p.1) (pairs xs ys)
+exactly_pairs {A} {B} {P} {Q} {xs} {ys} l m =
+    exactly_flat_map {B = A × B} (λ p. P p.0 × Q p.1) (λ x. flat_map {A = A × B} (λ y. (x, y) ∷ []) ys) l
+    (λ x p here h. let r = from_flat_map {B = A × B} (λ y. (x, y) ∷ []) ys p h in subst (λ (q : A × B). P q.0 × Q q.1) (Contains-only {A = A × B} (x, r.0) p r.2) (here, m.each r.0 r.1))
+    (λ p h. (p.0, h.0, Contains-flat_map {B = A × B} (λ y. (p.0, y) ∷ []) ys p.1 p (m.every p.1 h.1) (Contains-here {A = A × B} p [])))
 
--- what comes of those elements of which something does
-Contains-filter_map : {A B : Type 0} (f : A → Option B) (xs : List A) (x : A) (y : B) → Contains xs x → f x ≡ Some y → Contains (filter_map f xs) y
-Contains-filter_map f [] x y (k, l, e) h = absurd (omega arith)
-Contains-filter_map {B = B} f (z ∷ zs) x y h is = ⊎_elim (λ e. here (f z) (ap f e ∙ is)) (λ l. later (f z) (Contains-filter_map f zs x y l is)) (Contains-cases z zs x h)
-  where
-    here : (o : Option B) → o ≡ Some y → Contains (cons_option o (filter_map f zs)) y
-    here None e = absurd (none-some y e)
-    here (Some w) e = (0, omega arith, same_Some w y e)
+-- the elements that pass a test, each as a function gives it
+abbrev pub kept : {A B : Type 0} → (A → Bool) → (A → B) → List A → List B
+kept t f xs = flat_map (λ x. cond (t x) (f x ∷ []) []) xs
 
-    later : (o : Option B) → Contains (filter_map f zs) y → Contains (cons_option o (filter_map f zs)) y
-    later None k = k
-    later (Some w) k = Contains-later w (filter_map f zs) y k
+from_cond : {A : Type 0} (t : Bool) (x y : A) → Contains (cond t (x ∷ []) []) y → (t ≡ true) × (x ≡ y)
+from_cond true x y h = (refl, Contains-only x y h)
+from_cond false x y (k, l, e) = absurd (omega arith)
 
-from_filter_map : {A B : Type 0} (f : A → Option B) (xs : List A) (y : B) → Contains (filter_map f xs) y → (x : A) × Contains xs x × (f x ≡ Some y)
-from_filter_map f [] y (k, l, e) = absurd (omega arith)
-from_filter_map {A} {B} f (x ∷ xs) y h = go (from_filter_map f xs y) (f x) refl h
-  where
-    go : (Contains (filter_map f xs) y → (z : A) × Contains xs z × (f z ≡ Some y)) → (o : Option B) → f x ≡ o → Contains (cons_option o (filter_map f xs)) y → (z : A) × Contains (x ∷ xs) z × (f z ≡ Some y)
-    go later None is k = let r = later k in (r.0, Contains-later x xs r.0 r.1, r.2)
-    go later (Some w) is k =
-        ⊎_elim
-        (λ e. (x, Contains-here x xs, is ∙ ap Some e))
-        (λ l. let r = later l in (r.0, Contains-later x xs r.0 r.1, r.2))
-        (Contains-cases w (filter_map f xs) y k)
-
-pub exactly_filter_map : {A B : Type 0} (P : A → Type 0) (Q : B → Type 0) (f : A → Option B) (xs : List A) → Exactly P xs → ((x : A) (y : B) → P x → f x ≡ Some y → Q y) → ((y : B) → Q y → (x : A) × P x × (f x ≡ Some y)) → Exactly Q (filter_map f xs)
-exactly_filter_map P Q f xs l to from = record {
-  each = λ y h. let r = from_filter_map f xs y h in to r.0 y (l.each r.0 r.1) r.2;
-  every = λ y q. let r = from y q in Contains-filter_map f xs r.0 y (l.every r.0 r.1) r.2;
-}
-
--- the value, where a test passes
-abbrev pub only : {A : Type 0} → Bool → A → Option A
-only t x = cond t (Some x) None
-
-pub only_each : {A : Type 0} (t : Bool) (x y : A) → only t x ≡ Some y → (t ≡ true) × (x ≡ y)
-only_each true x y e = (refl, same_Some x y e)
-only_each false x y e = absurd (none-some y e)
-
-pub only_every : {A : Type 0} (t : Bool) (x : A) → t ≡ true → only t x ≡ Some x
-only_every t x e = ap (λ v. only v x) e
+pub exactly_kept : {A B : Type 0} {P : A → Type 0} {xs : List A} (Q : A → Type 0) (R : B → Type 0) (t : A → Bool) (f : A → B) → Exactly P xs → ((x : A) → Decides (t x) (Q x)) → ((x : A) → P x → Q x → R (f x)) → ((y : B) → R y → (x : A) × P x × Q x × (f x ≡ y)) → Exactly R (kept t f xs)
+exactly_kept {A} {B} Q R t f l d to from =
+    exactly_flat_map R (λ x. cond (t x) (f x ∷ []) []) l
+    (λ x y p h. let r = from_cond (t x) (f x) y h in subst R r.1 (to x p ((d x).0 r.0)))
+    (λ y q. let (x, p, passes, e) = from y q in (x, p, subst (λ v. Contains (cond v (f x ∷ []) []) y) (sym ((d x).1 passes)) (0, omega arith, e)))

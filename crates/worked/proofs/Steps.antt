@@ -1,6 +1,6 @@
 -- Exactly the steps, the legs, the lags, the open meetings and the opposed stops of a book, listed.
-use Rattle.std.proofs.Common.{◌≡◌, ℕ, ◌+◌, ◌<◌, Bool, not, ◌&&◌, eqb, ltb, ◌≢◌, ◌⊎◌, List, ◌++◌, ℤ, pos, ◌-ℤ◌, Some, None, Decides, Option, refl, ap, ◌∙◌, subst, subst₂, inl, inr, rules}
-use Rattle.std.specs.List.{list_any, filter_map}
+use Rattle.std.proofs.Common.{◌≡◌, ℕ, ◌+◌, ◌<◌, Bool, true, not, [], ◌∷◌, sym, arith, ◌&&◌, eqb, ltb, ◌≢◌, ◌⊎◌, List, ◌++◌, ℤ, pos, ◌-ℤ◌, Some, None, Decides, Option, refl, ap, ◌∙◌, subst, subst₂, inl, inr, rules}
+use Rattle.std.specs.List.{Contains, list_any, flat_map}
 use Rattle.std.proofs.iter.runs.Lists.{none-some, same_Some}
 use Rattle.std.proofs.lemmas.Bool.Decides.{Decides-eqb, Decides-ltb, Decides-not, Decides-and}
 use Rattle.lags.specs.declared.Lag.{Lag as LagRecord}
@@ -9,7 +9,7 @@ use Rattle.sheet.specs.Calls.{Standing}
 use Rattle.plan.specs.Lags.{Lag, travel, wait}
 use Rattle.plan.specs.Plans.{Lanes, Gaps, Leg, Opposed}
 use Rattle.judge.specs.Judged.{UndecidedAt}
-use Rattle.worked.proofs.Lists.{Exactly, exactly_append, decides_some, numbered, exactly_numbered, pairs, exactly_pairs, exactly_filter_map, only, only_each, only_every}
+use Rattle.worked.proofs.Lists.{Contains-here, Contains-only, Exactly, exactly_append, decides_some, numbered, exactly_numbered, pairs, exactly_pairs, exactly_flat_map, kept, exactly_kept}
 use Rattle.worked.proofs.Entries.{decided?, decides_decided, standing?, decides_standing}
 
 -- a step of carrier c from stop s at u to stop t at v
@@ -56,7 +56,7 @@ module _ (b : Book) where
   TwoStops p = IsStop p.0 × IsStop p.1
 
   pub exactly_two : Exactly TwoStops (pairs visits visits)
-  exactly_two = exactly_pairs IsStop IsStop visits visits exactly_visits exactly_visits
+  exactly_two = exactly_pairs exactly_visits exactly_visits
 
   -- a stop of p's carrier stands between p and q
   abbrev ComesBetween : AStop → AStop → AStop → Type 0
@@ -68,50 +68,47 @@ module _ (b : Book) where
   abbrev between? : AStop → AStop → Bool
   between? p q = list_any (comes_between? p q) visits
 
-  abbrev next? : AStop → AStop → Bool
-  next? p q = eqb q.1.carrier p.1.carrier && (ltb p.0 q.0 && not (between? p q))
+  abbrev IsNext : AStop × AStop → Type 0
+  IsNext p = (p.1.1.carrier ≡ p.0.1.carrier) × ((p.0.0 < p.1.0) × ¬ ((r : AStop) × IsStop r × ComesBetween p.0 p.1 r))
 
-  decides_next : (p q : AStop) → Decides (next? p q) ((q.1.carrier ≡ p.1.carrier) × ((p.0 < q.0) × ¬ ((r : AStop) × IsStop r × ComesBetween p q r)))
-  decides_next p q =
-      let between = decides_some IsStop (ComesBetween p q) visits (comes_between? p q) exactly_visits (λ r. search (rules, decided_numbers)) in
+  abbrev next? : AStop × AStop → Bool
+  next? p = eqb p.1.1.carrier p.0.1.carrier && (ltb p.0.0 p.1.0 && not (between? p.0 p.1))
+
+  decides_next : (p : AStop × AStop) → Decides (next? p) (IsNext p)
+  decides_next p =
+      let between = decides_some (ComesBetween p.0 p.1) (comes_between? p.0 p.1) exactly_visits (λ r. search (rules, decided_numbers)) in
       search (rules, decided_numbers, between)
 
   abbrev step_between : AStop × AStop → Step
   step_between p = record { c = p.0.1.carrier; s = p.0.0; u = p.0.1.place; t = p.1.0; v = p.1.1.place }
 
-  abbrev a_step : AStop × AStop → Option Step
-  a_step p = only (next? p.0 p.1) (step_between p)
-
   abbrev pub IsStep : Step → Type 0
   IsStep z = Next b z.c z.s z.u z.t z.v
 
   abbrev pub steps : List Step
-  steps = filter_map a_step (pairs visits visits)
+  steps = kept next? step_between (pairs visits visits)
 
   pub exactly_steps : Exactly IsStep steps
   exactly_steps =
-      exactly_filter_map TwoStops IsStep a_step (pairs visits visits) exactly_two
-      (λ p z at e.
-      let o = only_each (next? p.0 p.1) (step_between p) z e in
-      let d = (decides_next p.0 p.1).0 o.0 in
-      subst IsStep o.1 (record {
+      exactly_kept IsNext IsStep next? step_between exactly_two decides_next
+      (λ p at d. record {
         here = at.0;
         there = at.1 ∙ ap (λ (c : ℕ). Some (record { carrier = c; place = p.1.1.place })) d.0;
         later = d.1.0;
         none_between = λ r w l m h. d.1.1 ((r, record { carrier = p.0.1.carrier; place = w }), h, (l, (m, refl)));
-      }))
-      (λ z n.
-      let p : AStop × AStop = ((z.s, record { carrier = z.c; place = z.u }), (z.t, record { carrier = z.c; place = z.v })) in (
-        p,
+      })
+      (λ z n. (
+        ((z.s, record { carrier = z.c; place = z.u }), (z.t, record { carrier = z.c; place = z.v })),
         (n.here, n.there),
-        only_every (next? p.0 p.1) (step_between p) ((decides_next p.0 p.1).1 (
+        (
           refl,
           (
             n.later,
             λ (r, h, (l, (m, e))).
                 n.none_between r.0 r.1.place l m (h ∙ ap (λ (c : ℕ). Some (record { carrier = c; place = r.1.place })) e),
           ),
-        )),
+        ),
+        refl,
       ))
 
   -- two carriers at one place, of which neither goes first
@@ -128,15 +125,12 @@ module _ (b : Book) where
   numbers p = (p.0.0, p.1.0)
 
   abbrev pub open_meetings : List (ℕ × ℕ)
-  open_meetings = filter_map (λ p. only (open? p) (numbers p)) (pairs visits visits)
+  open_meetings = kept open? numbers (pairs visits visits)
 
   pub exactly_open : Exactly (λ (n : ℕ × ℕ). UndecidedAt b n.0 n.1) open_meetings
   exactly_open =
-      exactly_filter_map TwoStops (λ (n : ℕ × ℕ). UndecidedAt b n.0 n.1) (λ p. only (open? p) (numbers p)) (pairs visits visits) exactly_two
-      (λ p n at e.
-      let o = only_each (open? p) (numbers p) n e in
-      let d = (decides_open p).0 o.0 in
-      subst (λ (m : ℕ × ℕ). UndecidedAt b m.0 m.1) o.1 (record {
+      exactly_kept {B = ℕ × ℕ} Open (λ n. UndecidedAt b n.0 n.1) open? numbers exactly_two decides_open
+      (λ p at d. record {
         c = p.0.1.carrier;
         e = p.1.1.carrier;
         u = p.0.1.place;
@@ -145,33 +139,37 @@ module _ (b : Book) where
         there = at.1 ∙ ap (λ (u : ℕ). Some (record { carrier = p.1.1.carrier; place = u })) d.1.0;
         later = d.1.1.0;
         nobody_first = d.1.1.1;
-      }))
-      (λ n m.
-      let p : AStop × AStop = ((n.0, record { carrier = m.c; place = m.u }), (n.1, record { carrier = m.e; place = m.u })) in
-      (p, (m.here, m.there), only_every (open? p) (numbers p) ((decides_open p).1 (m.other, (refl, (m.later, m.nobody_first))))))
+      })
+      (λ n m. (
+        ((n.0, record { carrier = m.c; place = m.u }), (n.1, record { carrier = m.e; place = m.u })),
+        (m.here, m.there),
+        (m.other, (refl, (m.later, m.nobody_first))),
+        refl,
+      ))
 
   module _ (lanes : Lanes) where
     abbrev pub IsLeg : ALeg → Type 0
     IsLeg l = Leg lanes b l.0.c l.0.s l.0.u l.0.t l.0.v l.1
 
-    abbrev timed : Step → Option ℕ → Option ALeg
-    timed z None = None
-    timed z (Some d) = Some (z, d)
+    -- the step with its lane's travel time, if there is a lane
+    abbrev timed : Step → Option ℕ → List ALeg
+    timed z None = []
+    timed z (Some d) = (z, d) ∷ []
 
-    timed_each : (z : Step) (o : Option ℕ) (l : ALeg) → timed z o ≡ Some l → (z ≡ l.0) × (o ≡ Some l.1)
-    timed_each z None l e = absurd (none-some l e)
-    timed_each z (Some d) l e = let q = same_Some _ l e in (ap (λ (m : ALeg). m.0) q, ap (λ (m : ALeg). Some m.1) q)
+    timed_each : (z : Step) (o : Option ℕ) (l : ALeg) → Contains (timed z o) l → (z ≡ l.0) × (o ≡ Some l.1)
+    timed_each z None l (k, h, e) = absurd (omega arith)
+    timed_each z (Some d) l h = let q = Contains-only {A = ALeg} (z, d) l h in (ap (λ (m : ALeg). m.0) q, ap (λ (m : ALeg). Some m.1) q)
 
     abbrev pub legs : List ALeg
-    legs = filter_map (λ z. timed z (lanes z.u z.v)) steps
+    legs = flat_map (λ z. timed z (lanes z.u z.v)) steps
 
     pub exactly_legs : Exactly IsLeg legs
     exactly_legs =
-        exactly_filter_map IsStep IsLeg (λ z. timed z (lanes z.u z.v)) steps exactly_steps
-        (λ z l n e.
-        let q = timed_each z (lanes z.u z.v) l e in
+        exactly_flat_map IsLeg (λ z. timed z (lanes z.u z.v)) exactly_steps
+        (λ z l n h.
+        let q = timed_each z (lanes z.u z.v) l h in
         subst (λ (m : Step). IsLeg (m, l.1)) q.0 (record { next = n; lane = q.1 }))
-        (λ l g. (l.0, g.next, ap (timed l.0) g.lane))
+        (λ l g. (l.0, g.next, subst (λ o. Contains (timed l.0 o) l) (sym g.lane) (Contains-here {A = ALeg} l [])))
 
     -- two legs there and back, each of whose carriers goes first where it comes from
     abbrev Facing : ALeg × ALeg → Type 0
@@ -187,17 +185,14 @@ module _ (b : Book) where
     froms p = (p.0.0.s, p.1.0.s)
 
     abbrev pub opposed : List (ℕ × ℕ)
-    opposed = filter_map (λ p. only (facing? p) (froms p)) (pairs legs legs)
+    opposed = kept facing? froms (pairs legs legs)
 
     pub exactly_opposed : Exactly (λ (n : ℕ × ℕ). Opposed lanes b n.0 n.1) opposed
     exactly_opposed =
-        exactly_filter_map (λ (p : ALeg × ALeg). IsLeg p.0 × IsLeg p.1) (λ (n : ℕ × ℕ). Opposed lanes b n.0 n.1) (λ p. only (facing? p) (froms p)) (pairs legs legs) (exactly_pairs IsLeg IsLeg legs legs exactly_legs exactly_legs)
-        (λ p n at e.
-        let o = only_each (facing? p) (froms p) n e in
-        let d = (decides_facing p).0 o.0 in
-        let l = p.0.0 in
+        exactly_kept {B = ℕ × ℕ} Facing (λ n. Opposed lanes b n.0 n.1) facing? froms (exactly_pairs exactly_legs exactly_legs) decides_facing
+        (λ p at d. let l = p.0.0 in
         let m = p.1.0 in
-        subst (λ (q : ℕ × ℕ). Opposed lanes b q.0 q.1) o.1 (record {
+        record {
           c = l.c;
           e = m.c;
           u = l.u;
@@ -206,17 +201,20 @@ module _ (b : Book) where
           t_goes = (m.t, p.1.1, subst₂ (λ (v u : ℕ). Leg lanes b m.c m.s v m.t u p.1.1) d.1.0 d.0 at.1);
           first_at_u = d.1.1.0;
           first_at_v = d.1.1.1;
-        }))
-        (λ n o.
-        let p : ALeg × ALeg = ((record { c = o.c; s = n.0; u = o.u; t = o.s_goes.0; v = o.v }, o.s_goes.1), (record { c = o.e; s = n.1; u = o.v; t = o.t_goes.0; v = o.u }, o.t_goes.1)) in
-        (p, (o.s_goes.2, o.t_goes.2), only_every (facing? p) (froms p) ((decides_facing p).1 (refl, (refl, (o.first_at_u, o.first_at_v))))))
+        })
+        (λ n o. (
+          ((record { c = o.c; s = n.0; u = o.u; t = o.s_goes.0; v = o.v }, o.s_goes.1), (record { c = o.e; s = n.1; u = o.v; t = o.t_goes.0; v = o.u }, o.t_goes.1)),
+          (o.s_goes.2, o.t_goes.2),
+          (refl, (refl, (o.first_at_u, o.first_at_v))),
+          refl,
+        ))
 
     module _ (gap : Gaps) where
       abbrev pub IsLag : LagRecord → Type 0
       IsLag g = Lag lanes gap b g.from g.to g.weight
 
-      abbrev travel_lag : ALeg → Option LagRecord
-      travel_lag l = Some (record { from = l.0.s; to = l.0.t; weight = pos l.1 })
+      abbrev travel_lag : ALeg → LagRecord
+      travel_lag l = record { from = l.0.s; to = l.0.t; weight = pos l.1 }
 
       -- a precedence, a leg and a stop
       abbrev Meeting : Type 0
@@ -238,42 +236,35 @@ module _ (b : Book) where
       abbrev lag_of : Meeting → LagRecord
       lag_of m = record { from = m.1.0.0.t; to = m.1.1.0; weight = pos (gap m.1.0.0.u m.1.0.0.v m.1.0.1 + 1) -ℤ pos m.1.0.1 }
 
-      abbrev wait_lag : Meeting → Option LagRecord
-      wait_lag m = only (waits? m) (lag_of m)
-
       abbrev meetings : List Meeting
       meetings = pairs standing (pairs legs visits)
 
       -- the travel lags, then the waiting lags
       abbrev pub lags : List LagRecord
-      lags = filter_map travel_lag legs ++ filter_map wait_lag meetings
+      lags = kept (λ l. true) travel_lag legs ++ kept waits? lag_of meetings
 
       abbrev FromLeg : LagRecord → Type 0
-      FromLeg g = (l : ALeg) × IsLeg l × (travel_lag l ≡ Some g)
+      FromLeg g = (l : ALeg) × IsLeg l × Unit {0} × (travel_lag l ≡ g)
 
       abbrev FromMeeting : LagRecord → Type 0
-      FromMeeting g = (m : Meeting) × AreThere m × (wait_lag m ≡ Some g)
-
-      from_leg : (g : LagRecord) → FromLeg g → IsLag g
-      from_leg g (l, at, e) = subst IsLag (same_Some _ g e) (travel at)
+      FromMeeting g = (m : Meeting) × AreThere m × Waits m × (lag_of m ≡ g)
 
       from_meeting : (g : LagRecord) → FromMeeting g → IsLag g
-      from_meeting g (m, at, e) =
-          let o = only_each (waits? m) (lag_of m) g e in
-          let d = (decides_waits m).0 o.0 in
+      from_meeting g (m, at, d, e) =
           let stands : Stands b m.0.0 m.1.0.0.c m.1.1.1.carrier m.1.0.0.u = at.0 ∙ (λ i. Some (record { first = d.0 i; second = d.1.0 i; place = d.1.1.0 i })) in
           let visit : Visits b m.1.1.0 m.1.1.1.carrier m.1.0.0.u = at.1.1 ∙ (λ i. Some (record { carrier = m.1.1.1.carrier; place = d.1.1.1 i })) in
-          subst IsLag o.1 (wait m.0.0 stands at.1.0 visit)
+          subst IsLag e (wait m.0.0 stands at.1.0 visit)
 
       listed : {s t : ℕ} {w : ℤ} → Lag lanes gap b s t w → FromLeg (record { from = s; to = t; weight = w }) ⊎ FromMeeting (record { from = s; to = t; weight = w })
-      listed (travel {c = c} {s = s} {u = u} {t = t} {v = v} {d = d} leg) = inl ((record { c = c; s = s; u = u; t = t; v = v }, d), leg, refl)
+      listed (travel {c = c} {s = s} {u = u} {t = t} {v = v} {d = d} leg) = inl ((record { c = c; s = s; u = u; t = t; v = v }, d), leg, tt, refl)
       listed (wait k {first = first} {second = second} {s = s} {u = u} {t = t} {v = v} {d = d} {r = r} stands leg visit) =
           let m : Meeting = ((k, record { first = first; second = second; place = u }), ((record { c = first; s = s; u = u; t = t; v = v }, d), (r, record { carrier = second; place = u }))) in
-          inr (m, (stands, (leg, visit)), only_every (waits? m) (lag_of m) ((decides_waits m).1 (refl, (refl, (refl, refl)))))
+          inr (m, (stands, (leg, visit)), (refl, (refl, (refl, refl))), refl)
 
       pub exactly_lags : Exactly IsLag lags
       exactly_lags =
-          exactly_append FromLeg FromMeeting IsLag (filter_map travel_lag legs) (filter_map wait_lag meetings)
-          (exactly_filter_map IsLeg FromLeg travel_lag legs exactly_legs (λ l g at e. (l, at, e)) (λ g f. f))
-          (exactly_filter_map AreThere FromMeeting wait_lag meetings (exactly_pairs IsPrecedence (λ (q : ALeg × AStop). IsLeg q.0 × IsStop q.1) standing (pairs legs visits) exactly_standing (exactly_pairs IsLeg IsStop legs visits exactly_legs exactly_visits)) (λ m g at e. (m, at, e)) (λ g f. f))
-          from_leg from_meeting (λ g k. listed k)
+          exactly_append
+          (exactly_kept (λ l. Unit {0}) FromLeg (λ l. true) travel_lag exactly_legs (λ l. (λ _. tt, λ _. refl)) (λ l at d. (l, at, d, refl)) (λ g f. f))
+          (exactly_kept Waits FromMeeting waits? lag_of (exactly_pairs exactly_standing (exactly_pairs exactly_legs exactly_visits)) decides_waits (λ m at d. (m, at, d, refl)) (λ g f. f))
+          (λ g (l, at, d, e). subst IsLag e (travel at))
+          from_meeting (λ g k. listed k)

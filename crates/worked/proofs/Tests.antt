@@ -24,7 +24,7 @@ module _ (lanes : Lanes) (b : Book) where
   pub home : home? ≡ true → (c v : ℕ) → GoalOf b c v → (s : ℕ) × Visits b s c v
   home h c v g =
       (decides_on_route b c v).0
-      (each_passes (λ (k : ℕ × BookCarrier). slice_get b.carriers k.0 ≡ Some k.1) (numbered b.carriers) (λ k. on_route? b k.0 k.1.goal) (exactly_numbered b.carriers) h (c, record { start = g.0; goal = v }) g.1)
+      (each_passes _ (exactly_numbered b.carriers) h (c, record { start = g.0; goal = v }) g.1)
 
   -- every step is a lane
   abbrev pub on_lanes? : Bool
@@ -33,7 +33,7 @@ module _ (lanes : Lanes) (b : Book) where
   pub on_lanes : on_lanes? ≡ true → (c s u t v : ℕ) → Next b c s u t v → (d : ℕ) × (lanes u v ≡ Some d)
   on_lanes h c s u t v n =
       some_there (lanes u v)
-      (each_passes (IsStep b) (steps b) (λ z. is_some (lanes z.u z.v)) (exactly_steps b) h (record { c = c; s = s; u = u; t = t; v = v }) n)
+      (each_passes _ (exactly_steps b) h (record { c = c; s = s; u = u; t = t; v = v }) n)
 
   -- every meeting is decided
   abbrev settled? : AStop × AStop → Bool
@@ -45,7 +45,7 @@ module _ (lanes : Lanes) (b : Book) where
   all_decided : all_decided? ≡ true → (c e s r u : ℕ) → c ≢ e → Visits b s c u → Visits b r e u → Decided b c e u
   all_decided h c e s r u other here there =
       let p : AStop × AStop = ((s, record { carrier = c; place = u }), (r, record { carrier = e; place = u })) in
-      let passes = each_passes (TwoStops b) (pairs (visits b) (visits b)) settled? (exactly_two b) h p (here, there) in
+      let passes = each_passes _ (exactly_two b) h p (here, there) in
       (decides_decided b c e u).0 (grind (arith, nat_tests))
 
   abbrev complete? : Bool
@@ -76,18 +76,18 @@ module _ (lanes : Lanes) (b : Book) where
   goes_on? = list_all goes? (pairs (standing b) (visits b))
 
   decides_begins : (p : APrecedence × AStop) → Decides (list_any (begins? p) (legs b lanes)) ((l : ALeg) × IsLeg b lanes l × Begins p l)
-  decides_begins p = decides_some (IsLeg b lanes) (Begins p) (legs b lanes) (begins? p) (exactly_legs b lanes) (λ l. search (rules, decided_numbers))
+  decides_begins p = decides_some (Begins p) (begins? p) (exactly_legs b lanes) (λ l. search (rules, decided_numbers))
 
   goes_on : goes_on? ≡ true → (k first second u s : ℕ) → Stands b k first second u → Visits b s first u → (t v d : ℕ) × Leg lanes b first s u t v d
   goes_on h k first second u s stands visit =
       let p : APrecedence × AStop = ((k, record { first = first; second = second; place = u }), (s, record { carrier = first; place = u })) in
-      let passes = each_passes (λ (q : APrecedence × AStop). IsPrecedence b q.0 × IsStop b q.1) (pairs (standing b) (visits b)) goes? (exactly_pairs (IsPrecedence b) (IsStop b) (standing b) (visits b) (exactly_standing b) (exactly_visits b)) h p (stands, visit) in
+      let passes = each_passes _ (exactly_pairs (exactly_standing b) (exactly_visits b)) h p (stands, visit) in
       let l = (decides_begins p).0 (grind (arith, nat_tests)) in
       (l.0.0.t, l.0.0.v, l.0.1, subst₃ (λ (c s u : ℕ). Leg lanes b c s u l.0.0.t l.0.0.v l.0.1) l.2.0 l.2.1.0 l.2.1.1 l.1)
 
   orderly : differ? ≡ true → goes_on? ≡ true → Orderly lanes b
   orderly d g = record {
-    differ = λ k first second u stands. let passes = each_passes (IsPrecedence b) (standing b) (λ p. not (eqb p.1.first p.1.second)) (exactly_standing b) d (k, record { first = first; second = second; place = u }) stands in grind (arith, nat_tests);
+    differ = λ k first second u stands. let passes = each_passes _ (exactly_standing b) d (k, record { first = first; second = second; place = u }) stands in grind (arith, nat_tests);
     goes_on = goes_on g;
   }
 
@@ -113,8 +113,7 @@ lowest? xs s t = list_any (is_pair s t) xs && list_all (not_lower s t) xs
 
 pub lowest : (P : ℕ → ℕ → Type 0) (xs : List (ℕ × ℕ)) → Exactly (λ (n : ℕ × ℕ). P n.0 n.1) xs → (s t : ℕ) → lowest? xs s t ≡ true → LowestPair P s t
 lowest P xs l s t h =
-    let Q : ℕ × ℕ → Type 0 = λ n. P n.0 n.1 in
     let p = and_parts (list_any (is_pair s t) xs) (list_all (not_lower s t) xs) h in
-    let at = (decides_some Q (λ (n : ℕ × ℕ). (n.0 ≡ s) × (n.1 ≡ t)) xs (is_pair s t) l (λ n. grind (arith, nat_tests))).0 p.0 in
-    let low = each_passes Q xs (not_lower s t) l p.1 in
+    let at = (decides_some (λ (n : ℕ × ℕ). (n.0 ≡ s) × (n.1 ≡ t)) (is_pair s t) l (λ n. grind (arith, nat_tests))).0 p.0 in
+    let low = each_passes _ l p.1 in
     (subst₂ P at.2.0 at.2.1 at.1, λ r q m k. let passes = low (r, q) k in grind (arith, nat_tests), λ q m k. let passes = low (s, q) k in grind (arith, nat_tests))
