@@ -11,7 +11,7 @@ use std::ops::{Index, IndexMut};
 pub struct TooMany;
 
 // A list of at most `MOST` items. The memory for all of them is taken when the list is made, so that no later call
-// wants memory. A clause sees the list of the items. No call asks for anything but indexing, which asks for an index
+// needs memory. A clause sees the list of the items. No call asks for anything but indexing, which asks for an index
 // within, as that of every list does.
 #[derive(Drop)]
 pub struct BoundedVec<T, const MOST: usize> {

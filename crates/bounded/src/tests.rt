@@ -1,4 +1,5 @@
 // A list is made, filled, changed and emptied.
+// Loops over numbers make or try cases by number: there are no elements to go over.
 use crate::{BoundedVec, TooMany};
 use std::test::Fail;
 

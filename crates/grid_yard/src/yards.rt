@@ -12,7 +12,7 @@ pub const MOST_WORDS: usize = 64;
 
 // A yard of cells in rows and columns. Cell number row × columns + column is a place. Open cells that touch by a side
 // are joined by lanes both ways.
-// Memory for the largest grid is taken when it is made, so that setting out never wants memory.
+// Memory for the largest grid is taken when it is made, so that setting out never needs memory.
 #[derive(Drop)]
 pub struct GridYard {
     plan: Plan,

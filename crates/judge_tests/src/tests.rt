@@ -1,4 +1,5 @@
 // The tests.
+// Loops over numbers make or try cases by number: there are no elements to go over.
 use grid_yard::plan::Plan;
 use grid_yard::yards::GridYard;
 use judge::judging::judge;
@@ -13,7 +14,8 @@ use std::test::Fail;
 use yard::rules::{FixedGap, FullLane, LaneLessOne};
 use yard::{FollowingRule, Yard};
 
-// A lane yard with these lanes, each as from, to and travel time.
+// A lane yard with these lanes, each as from, to and travel time. The tests of played lists have the like for a yard of
+// either kind; a crate for this one function would be no plainer.
 fn yard_of(rt: &impl Abort, heap: Global, lanes: &[(u16, u16, u16)]) -> Result<LaneYard, Fail> {
     let mut yard = LaneYard::new(heap)?;
     let mut list = Vec::new(heap);

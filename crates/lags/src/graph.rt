@@ -1,4 +1,5 @@
-// The graph of the lags, and the rounds through it, which raise arrivals until every lag is kept.
+// The graph of the lags, and the rounds through it, which raise arrivals until every lag is kept. The arrays have fixed
+// sizes, since solving takes no memory.
 ghost use Rattle.std.specs.Prelude.{◌≡◌, ℕ, ◌+◌, ◌^◌, ◌<◌, ◌≤◌, ◌↔◌, length, pos, ◌+ℤ◌, All, IsTrue, IsSome, IfSome, MatchOption, if◌then◌else◌, int_lt, slice_set};
 ghost use Rattle.lags.specs.Progress.{Low, Round};
 ghost use Rattle.lags.specs.Solved.{Allowed, Earliest, Inside, at};

@@ -47,6 +47,7 @@ pub fn solve(lags: &[Lag], arrivals: &mut [u64], ring: &mut [u16]) -> Result<(),
         None => Ok(()),
         Some(nodes) => {
             write_from_lowest(&nodes, ring);
+            // `as` loses nothing: there are at most 1,024 nodes.
             Err(Unsolved::Ring {
                 length: nodes.len() as u16,
             })

@@ -9,8 +9,12 @@ fn lowest(nodes: &[u16]) -> usize
     ensures within { result < length nodes.now }
     ensures least { All (λ x. at nodes.now result ≤ x) nodes.now }
 {
-    let low = nodes.iter().enumerate().min_by_key(|(_, node)| **node);
-    low.map_or(0, |(place, _)| place)
+    let (place, _) = nodes
+        .iter()
+        .enumerate()
+        .min_by_key(|(_, node)| **node)
+        .unwrap();
+    place
 }
 
 // Writes the nodes to the front of the page in the opposite order, going round from the lowest.

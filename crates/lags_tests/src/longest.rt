@@ -1,4 +1,5 @@
 // Arrivals by the longest ways between all pairs of nodes: a second way of working them out, for few nodes.
+// Loops over numbers make or try cases by number: there are no elements to go over.
 use lags::Lag;
 
 pub(crate) const NODES: usize = 6;

@@ -1,4 +1,5 @@
 // Rings and chains as the tests make and judge them.
+// Loops over numbers make or try cases by number: there are no elements to go over.
 ghost use Rattle.std.specs.Prelude.{◌≤◌, length};
 
 use lags::Lag;

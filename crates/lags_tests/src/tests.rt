@@ -1,3 +1,4 @@
+// Worked cases, limits, and random lists. Loops over numbers make or try cases by number.
 use crate::longest::{NODES, longest_arrivals};
 use crate::rings::{NO_LAG, fill_chain, fill_chain_arrivals, fill_ring, is_ring};
 use lags::{Lag, Unsolved, solve};

@@ -18,7 +18,8 @@ fn is_within(lane: &Lane) -> bool
         && (1..=LONGEST_TIME).contains(&lane.time)
 }
 
-// Whether `a` comes before `b`: by the place they lead from, then by the place they lead to.
+// Whether `a` comes before `b`: by the place they lead from, then by the place they lead to. No derive: the travel time
+// does not count.
 fn is_before(a: &Lane, b: &Lane) -> bool
     ensures { IsTrue result ↔ Before a.now b.now }
 {

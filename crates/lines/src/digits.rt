@@ -38,6 +38,7 @@ pub(crate) fn check_digits(line: &[u8]) -> Result<(), LineRefusal>
     ensures { result ≡ (if nat_lt (first_bad line.now) (length line.now) then Err (BadDigit (first_bad line.now)) else Ok tt) }
 {
     match bad_column(line) {
+        // `as` loses nothing: a column is below 64.
         Some(column) => Err(LineRefusal::BadDigit {
             column: column as u16,
         }),

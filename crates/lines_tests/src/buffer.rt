@@ -1,4 +1,5 @@
 // The line buffer: the first 65 bytes of a line are kept.
+// Loops over numbers make or try cases by number: there are no elements to go over.
 use crate::reading::check_read;
 use lines::buffer::LineBuffer;
 use lines::entry::Input;

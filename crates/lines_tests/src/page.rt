@@ -1,4 +1,5 @@
 // What is written into a page, held against what should stand there.
+// Loops over numbers make or try cases by number: there are no elements to go over.
 use lines::entry::Entry;
 use lines::page::write_bytes;
 use lines::refusal::WriteRefusal;

@@ -1,4 +1,5 @@
 // Lines that are refused: by their bytes, by their length, by their first byte, and in the order of the checks.
+// Loops over numbers make or try cases by number: there are no elements to go over.
 use crate::page::check_written;
 use crate::reading::check_read;
 use lines::entry::Input;
@@ -207,7 +208,7 @@ fn check_lengths(rt: &impl Abort, line: &[u8], input: Input, other: Input) {
     }
 }
 
-// What the first byte alone is refused for, in a sheet and in a yard.
+// What the first byte alone is refused for, in a sheet and in a yard. A number, since every byte is tried.
 fn check_first_byte(rt: &impl Abort, kind: u8) {
     let line = [DIGITS[kind as usize / 16], DIGITS[kind as usize % 16]];
     let (sheet, yard) = match kind {

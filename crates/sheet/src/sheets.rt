@@ -73,6 +73,7 @@ impl Tables {
         ensures refuses { IfErr result (λ e. (¬ OnRoute (book_of self.now) visit.carrier visit.place) × (e ≡ EntryRefusal.NotOnBothRoutes)) }
     {
         let number = find(self.stops.as_slice(), &visit).ok_or(EntryRefusal::NotOnBothRoutes)?;
+        // `as` loses nothing, here and below: the limits are small. `try_from` would add a refusal that cannot come.
         Ok(number as u16)
     }
 
@@ -85,7 +86,7 @@ impl Tables {
     }
 }
 
-// A sheet. It has room for all that it may ever hold, so that no call after the opening wants memory.
+// A sheet. It has room for all that it may ever hold, so that no call after the opening needs memory.
 #[derive(Drop)]
 pub struct Sheet {
     tables: Tables,
@@ -216,7 +217,8 @@ impl Sheet {
         find(self.precedences(), &order).ok_or(EntryRefusal::NothingToStrike)
     }
 
-    // Enters a carrier, with its first stop at its start, and answers its number.
+    // Enters a carrier, with its first stop at its start, and answers its number. Here and below the four clauses stand
+    // apart: each is a promise that a caller asks for alone.
     pub fn enter_carrier(&mut self, start: u16, goal: u16) -> Result<u16, EntryRefusal>
         ensures answers { Answers (sheet_book self.old) (enter_carrier start goal) result }
         ensures leaves { Leaves (sheet_book self.old) (enter_carrier start goal) result (sheet_book self.new) }
@@ -224,7 +226,6 @@ impl Sheet {
         ensures goes_on { Continues (sheet_book self.old) (enter_carrier start goal) result (sheet_book self.new) }
     {
         self.check_carrier(start, goal)?;
-        // `as` loses nothing here and below: the limits are small. `try_from` would add a refusal that cannot come.
         let number = self.tables.carriers.len() as u8;
         let stop = self.tables.stops.len() as u16;
         self.tables

@@ -41,7 +41,7 @@ pub trait FollowingRule {
     // The largest gap that the rule can give.
     const LARGEST_GAP: u32;
 
-    // The same, for clauses.
+    // The same, for clauses, which cannot name a constant of a trait; the check proves them equal.
     ghost LARGEST_GAP: { ℕ };
 
     // The gap behind a carrier that goes from place to place in a travel time.

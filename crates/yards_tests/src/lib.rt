@@ -1,4 +1,5 @@
 // Tests of the search by key, the yards and the following rules, on examples.
+// Loops over numbers make or try cases by number: there are no elements to go over.
 #![tactic(auto)]
 
 #[cfg(test)]
