@@ -3,6 +3,7 @@ use Rattle.std.proofs.Common.{◌≡◌, ℕ, ◌<◌, [], ◌∷◌, ◌++◌, 
 use Rattle.std.specs.List.{remove, slice_get}
 use Rattle.std.proofs.lemmas.Grind.{common_steps}
 use Rattle.std.proofs.lemmas.List.{length-map}
+use Rattle.std.proofs.lemmas.List.Edits.{length-remove}
 use Rattle.std.proofs.lemmas.Option.{get_or_from_slice_get, slice_get_within}
 use Rattle.std.proofs.Math.Seq.{map-set_same}
 use Rattle.sheet.specs.declared.records.Carrier.{Carrier}
@@ -101,3 +102,6 @@ module _ (t t' : Tables) (k : ℕ)
       carries t'
       (subst Sound (sym book_precedence_struck) (sound_strike (book_of t) (sound_held _ sound) k in_book))
       (rw (carriers, stops, precedences) (numbered_strike t.carriers t.stops t.precedences (numbered_held _ _ _ right) k within))
+
+-- what an entry or a striking leaves
+pub ruleset left = (common_steps, map-gone_on, map-remove, length-map, length-remove)

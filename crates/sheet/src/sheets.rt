@@ -248,6 +248,7 @@ impl Sheet {
     }
 
     // Enters a carrier's next stop, and answers the stop's number.
+    #[tactic(auto, using(crate::proofs::Entered::left))]
     pub fn enter_stop(&mut self, carrier: u8, place: u16) -> Result<u16, EntryRefusal>
         ensures answers { Answers (sheet_book self.old) (enter_stop carrier place) result }
         ensures leaves { Leaves (sheet_book self.old) (enter_stop carrier place) result (sheet_book self.new) }
@@ -272,6 +273,7 @@ impl Sheet {
     }
 
     // Enters a precedence, and answers how many then stand.
+    #[tactic(auto, using(crate::proofs::Entered::left))]
     pub fn enter_precedence(
         &mut self,
         first: u8,
@@ -303,6 +305,7 @@ impl Sheet {
     }
 
     // Strikes the precedence out, and answers how many then stand.
+    #[tactic(auto, using(crate::proofs::Entered::left))]
     pub fn strike_precedence(
         &mut self,
         first: u8,

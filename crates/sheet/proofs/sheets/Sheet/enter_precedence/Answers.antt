@@ -11,6 +11,3 @@ invariant_of-self c =
     let passed = c.in_ok-first_stop.ensures in
     let kept = carries_precedence self.tables t _ _ _ _ _ refl refl (c.push.ensures.pushed passed.room) self.sound self.numbered passed.checked passed.stops in
     search rules
-
-pub returns-in_err-first_stop-clause-goes_on : goal.returns-in_err-first_stop-clause-goes_on
-returns-in_err-first_stop-clause-goes_on c h led = grind (arith, common_steps)

@@ -15,9 +15,3 @@ invariant_of-self c =
     let read : slice_get cs c.args.carrier ≡ Some x = grind (arith, slice_get-get_or cs c.args.carrier x) in
     let kept = carries_stop self.tables t c.args.carrier c.args.place _ x c.len-number.ensures.value read (λ i. set cs (c.from.ensures i) (c.go_on.ensures i)) (c.push.ensures.pushed c.in_ok-check_stop.ensures.room.1) refl self.sound self.numbered c.in_ok-check_stop.ensures.checked in
     search rules
-
-pub returns-clause-leaves : goal.returns-clause-leaves
-returns-clause-leaves c = grind (arith, common_steps, map-gone_on)
-
-pub returns-clause-goes_on : goal.returns-clause-goes_on
-returns-clause-goes_on c h led = grind (arith, common_steps, map-gone_on)
