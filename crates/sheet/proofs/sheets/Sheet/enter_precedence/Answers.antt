@@ -1,5 +1,4 @@
-use Rattle.std.proofs.Common.{refl, arith, rules}
-use Rattle.std.proofs.lemmas.Grind.{common_steps}
+use Rattle.std.proofs.Common.{refl, rules}
 use Rattle.sheet.specs.declared.sheets.Tables.{Tables}
 use Rattle.sheet.proofs.Entered.{carries_precedence}
 use Rattle.sheet.proofs.sheets.Sheet.enter_precedence.Goals as goal

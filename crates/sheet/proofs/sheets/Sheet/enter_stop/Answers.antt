@@ -1,9 +1,8 @@
 use Rattle.std.proofs.Common.{◌≡◌, set, Some, refl, arith, rules}
 use Rattle.std.specs.List.{slice_get}
-use Rattle.std.proofs.lemmas.Grind.{common_steps}
 use Rattle.std.proofs.lemmas.Option.{slice_get-get_or}
 use Rattle.sheet.specs.declared.sheets.Tables.{Tables}
-use Rattle.sheet.proofs.Entered.{map-gone_on, carries_stop}
+use Rattle.sheet.proofs.Entered.{carries_stop}
 use Rattle.sheet.proofs.sheets.Sheet.enter_stop.Goals as goal
 
 pub invariant_of-self : goal.invariant_of-self

@@ -1,10 +1,6 @@
-use Rattle.std.proofs.Common.{refl, arith, rules}
-use Rattle.std.proofs.lemmas.Grind.{common_steps}
-use Rattle.std.proofs.lemmas.List.{length-map}
-use Rattle.std.proofs.lemmas.List.Edits.{length-remove}
+use Rattle.std.proofs.Common.{refl, rules}
 use Rattle.sheet.specs.declared.sheets.Tables.{Tables}
 use Rattle.sheet.proofs.Entered.{carries_strike}
-use Rattle.sheet.proofs.SliceGet.{map-remove}
 use Rattle.sheet.proofs.sheets.Sheet.strike_precedence.Goals as goal
 
 pub invariant_of-self : goal.invariant_of-self
