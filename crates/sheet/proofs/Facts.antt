@@ -118,7 +118,7 @@ module _ (s : Sheet) where
   pub one_start : (c t u r w : ℕ) → Starts b c t u → Starts b c r w → (t ≡ r) × (u ≡ w)
   one_start c t u r w at by = grind (arith, one_visit)
 
-  -- the record of a stop keeps the one before it, or none where it is the first
+  -- the record of a stop keeps the one before it
   pub next_previous : (c p u t v : ℕ) (x : Stop) → slice_get ss t ≡ Some x → Next b c p u t v → x.previous ≡ Some p
   next_previous c p u t v x e on =
       grind (arith, before t x e, one_visit t x.carrier x.place c v (visits_of t x e) on.there, one_next)

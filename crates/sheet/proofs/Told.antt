@@ -12,11 +12,11 @@ use Rattle.sheet.specs.Sound.{Sound, Holds}
 use Rattle.sheet.specs.Tables.{book_of, NumberedTables}
 use Rattle.sheet.proofs.SliceGet.{slice_get-map_some}
 use Rattle.sheet.proofs.Stable.{sound_held, numbered_held}
-use Rattle.sheet.proofs.Words.{one_way, one_visit}
+use Rattle.sheet.proofs.Words.{one_visit}
 
 -- carrier c's latest stop is at its goal just when its route has reached it
 pub at_goal : (b : Book) → Sound b → (c s u start goal : ℕ) → Goes b c start goal → Latest b c s u → ReachedGoal b c → u ≡ goal
-at_goal b sound c s u start goal goes late reached = grind (arith, one_way b, one_visit b)
+at_goal b sound c s u start goal goes late reached = grind (arith, one_visit b)
 
 module _ (t : Tables) (c : ℕ) (x : Carrier) (read : slice_get t.carriers c ≡ Some x) where
   goes_told : Goes (book_of t) c x.start x.goal

@@ -3,15 +3,11 @@ use Rattle.std.proofs.Common.{◌≡◌, ℕ, zero, suc, ◌⊎◌, List, [], �
 use Rattle.std.specs.List.{slice_get}
 use Rattle.std.proofs.lemmas.Bool.{cases_eq}
 use Rattle.std.proofs.lemmas.Option.{none-some, same_Some}
-use Rattle.sheet.specs.Book.{BookStop, Book, Goes, Visits, OnRoute}
+use Rattle.sheet.specs.Book.{BookStop, Book, Visits, OnRoute}
 
 -- a stop is of one carrier, at one place
 pub one_visit : (b : Book) (s c u c' u' : ℕ) → Visits b s c u → Visits b s c' u' → (c ≡ c') × (u ≡ u')
 one_visit b s c u c' u' p q = grind arith
-
--- a carrier has one start and one goal
-pub one_way : (b : Book) (c u v u' v' : ℕ) → Goes b c u v → Goes b c u' v' → (u ≡ u') × (v ≡ v')
-one_way b c u v u' v' p q = grind arith
 
 -- the stop r is one of these
 abbrev Among : List BookStop → BookStop → Type 0
