@@ -185,6 +185,7 @@ impl Sheet {
     }
 
     // Checks whether a precedence may be entered, and answers the stops of first and second at the place.
+    #[tactic(auto, using(crate::proofs::Told::told))]
     fn check_precedence(&self, order: Order) -> Result<(u16, u16), EntryRefusal>
         ensures checked { Checked (sheet_book self.now) (enter_precedence order.first order.second order.place) result }
         ensures stops { IfOk result (λ s. Visits (sheet_book self.now) s.0 order.first order.place × Visits (sheet_book self.now) s.1 order.second order.place) }
@@ -273,7 +274,6 @@ impl Sheet {
     }
 
     // Enters a precedence, and answers how many then stand.
-    #[tactic(auto, using(crate::proofs::Entered::left))]
     pub fn enter_precedence(
         &mut self,
         first: u8,
