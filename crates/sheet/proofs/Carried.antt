@@ -1,8 +1,8 @@
 -- What a sheet carries, at its opening and after each call.
-use Rattle.std.proofs.Common.{◌≡◌, [], length, sym, subst, rules}
+use Rattle.std.proofs.Common.{◌≡◌, [], length, rules}
 use Rattle.std.proofs.lemmas.Option.{none-some}
 use Rattle.sheet.specs.declared.sheets.Tables.{Tables}
-use Rattle.sheet.specs.Book.{opened}
+use Rattle.sheet.specs.Book.{Book, opened}
 use Rattle.sheet.specs.Records.{book_from, Numbered}
 use Rattle.sheet.specs.Sound.{Sound, Holds}
 use Rattle.sheet.specs.Tables.{book_of, NumberedTables, CarriersInside, StopsInside, Linked, PrecedencesInside}
@@ -18,15 +18,17 @@ pub record Carries (t : Tables) : Type 0 where
   pub linked : Linked t.stops
   pub lawful : PrecedencesInside (length t.carriers) (length t.stops) t.precedences
 
-pub carries : (t : Tables) → Sound (book_of t) → NumberedTables t → Carries t
-carries t sound right = record {
-  sound = ∣ sound ∣₁;
-  numbered = ∣ right ∣₁;
-  latest = carriers_inside t sound right;
-  carried = stops_inside t sound right;
-  linked = stops_linked t sound right;
-  lawful = precedences_inside t sound right;
-}
+pub carries : (t : Tables) (b : Book) → book_of t ≡ b → Sound b → NumberedTables t → Carries t
+carries t b is sound right =
+    let held : Sound (book_of t) = rw is sound in
+    record {
+      sound = ∣ held ∣₁;
+      numbered = ∣ right ∣₁;
+      latest = carriers_inside t held right;
+      carried = stops_inside t held right;
+      linked = stops_linked t held right;
+      lawful = precedences_inside t held right;
+    }
 
 numbered_none : Numbered [] [] []
 numbered_none = search (rules, none-some)
@@ -37,4 +39,4 @@ module _ (t : Tables) (no_carriers : t.carriers ≡ []) (no_stops : t.stops ≡ 
   book_opened = λ i. book_from (no_carriers i) (no_stops i) (no_precedences i)
 
   pub carries_opened : Carries t
-  carries_opened = carries t (subst Sound (sym book_opened) sound_opened) (rw (no_carriers, no_stops, no_precedences) numbered_none)
+  carries_opened = carries t opened book_opened sound_opened (rw (no_carriers, no_stops, no_precedences) numbered_none)

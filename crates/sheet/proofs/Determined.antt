@@ -1,11 +1,11 @@
 -- The calls made since the opening decide the answers and the book.
-use Rattle.std.proofs.Common.{◌≡◌, Ok, Err, sym, refl, ap, ◌∙◌, subst, inl, arith}
+use Rattle.std.proofs.Common.{◌≡◌, Ok, Err, sym, refl, ap, ◌∙◌, inl, arith}
 use Rattle.sheet.specs.declared.refusal.EntryRefusal.{EntryRefusal}
 use Rattle.sheet.specs.Book.{Book}
 use Rattle.sheet.specs.Calls.{Call, Answer, Checks, checks, Refuses, Accepts, Answers, Changes, Leaves, without_precedence}
 use Rattle.sheet.specs.Calls.Call.{enter_carrier, enter_stop, enter_precedence, strike_precedence}
 use Rattle.sheet.specs.Calls.Checks.{no_more, check}
-use Rattle.sheet.specs.Histories.{History, Entry, Lawful, calls_of, CallsDecide}
+use Rattle.sheet.specs.Histories.{History, Entry, Enters, Lawful, calls_of, CallsDecide}
 use Rattle.sheet.specs.Histories.History.{opening, ◌▹◌}
 use Rattle.sheet.specs.Sound.{Sound}
 use Rattle.sheet.proofs.Soundness.{ever_sound}
@@ -44,9 +44,9 @@ DecidesFrom h = (h' : History Entry) (b b' : Book) → Lawful h b → Lawful h' 
 more : (h h' : History Entry) (e e' : Entry) (b b' : Book) → DecidesFrom h → Lawful (h ▹ e) b → Lawful (h' ▹ e') b' → calls_of h ≡ calls_of h' → e.0 ≡ e'.0 → ((h ▹ e) ≡ (h' ▹ e')) × (b ≡ b')
 more h h' (call, r) (call', r') b b' before (x, led, did) (x', led', did') hs same =
     let ih = before h' x x' led led' hs in
-    let answers : Answers x call r' = subst (λ (k : Call). Answers x k r') (sym same) (subst (λ (y : Book). Answers y call' r') (sym ih.1) did'.0) in
-    let answer : r ≡ r' = one_answer x call r r' did.0 answers in
-    let leaves : Leaves x call r b' = subst (λ (a : Answer). Leaves x call a b') (sym answer) (subst (λ (k : Call). Leaves x k r' b') (sym same) (subst (λ (y : Book). Leaves y call' r' b') (sym ih.1) did'.1)) in
+    let did'' : Enters x (call, r') b' = rw (ih.1, same) did' in
+    let answer : r ≡ r' = one_answer x call r r' did.0 did''.0 in
+    let leaves : Leaves x call r b' = rw answer did''.1 in
     ((λ i. ih.0 i ▹ (same i, answer i)), one_book x b b' (ever_sound h x led) call r did.1 leaves)
 
 pub calls_decide : CallsDecide

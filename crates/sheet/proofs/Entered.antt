@@ -1,8 +1,9 @@
 -- The book after each accepted call, and what the sheet then carries.
-use Rattle.std.proofs.Common.{◌≡◌, ℕ, ◌<◌, [], ◌∷◌, ◌++◌, List, map, length, get_or, set, Some, None, sym, subst, arith}
+use Rattle.std.proofs.Common.{◌≡◌, ℕ, ◌<◌, [], ◌∷◌, ◌++◌, List, map, length, slice_index_or, set, Some, None, arith}
 use Rattle.std.specs.List.{remove, slice_get}
 use Rattle.std.proofs.lemmas.Grind.{common_steps}
 use Rattle.std.proofs.lemmas.List.{length-map}
+use Rattle.std.proofs.lemmas.List.Edits.{length-remove}
 use Rattle.std.proofs.lemmas.Option.{get_or_from_slice_get, slice_get_within}
 use Rattle.std.proofs.Math.Seq.{map-set_same}
 use Rattle.sheet.specs.declared.records.Carrier.{Carrier}
@@ -42,10 +43,10 @@ module _ (t t' : Tables) (start goal number stop : ℕ)
         rw (carriers, stops, precedences, its_number, its_stop) new
 
     pub carries_carrier : Carries t'
-    carries_carrier = carries t' (subst Sound (sym book_carrier_entered) (sound_carrier (book_of t) (sound_held _ sound) start goal free)) numbered
+    carries_carrier = carries t' _ book_carrier_entered (sound_carrier (book_of t) (sound_held _ sound) start goal free) numbered
 
 -- a carrier that goes on keeps its start and its goal
-pub map-gone_on : (cs : List Carrier) (i : ℕ) (y : Carrier) → i < length cs → y.start ≡ (get_or cs i no_carrier).start → y.goal ≡ (get_or cs i no_carrier).goal → map book_carrier (set cs i y) ≡ map book_carrier cs
+pub map-gone_on : (cs : List Carrier) (i : ℕ) (y : Carrier) → i < length cs → y.start ≡ (slice_index_or cs i no_carrier).start → y.goal ≡ (slice_index_or cs i no_carrier).goal → map book_carrier (set cs i y) ≡ map book_carrier cs
 map-gone_on cs i y l start goal = map-set_same book_carrier cs i y no_carrier (λ k. record { start = start k; goal = goal k })
 
 -- a stop was entered
@@ -68,7 +69,7 @@ module _ (t t' : Tables) (carrier place stop : ℕ) (x : Carrier)
         rw (carriers, stops, precedences, its_number) new
 
     pub carries_stop : Carries t'
-    carries_stop = carries t' (subst Sound (sym book_stop_entered) (sound_stop (book_of t) (sound_held _ sound) carrier place free)) numbered_on
+    carries_stop = carries t' _ book_stop_entered (sound_stop (book_of t) (sound_held _ sound) carrier place free) numbered_on
 
 -- a precedence was entered
 module _ (t t' : Tables) (first second place first_stop second_stop : ℕ)
@@ -83,8 +84,8 @@ module _ (t t' : Tables) (first second place first_stop second_stop : ℕ)
 
   pub carries_precedence : Holds (Sound (book_of t)) → Holds (NumberedTables t) → Accepts (checks (book_of t) (enter_precedence first second place)) → Visits (book_of t) first_stop first place × Visits (book_of t) second_stop second place → Carries t'
   carries_precedence sound right free at =
-      carries t'
-      (subst Sound (sym book_precedence_entered) (sound_precedence (book_of t) (sound_held _ sound) first second place free))
+      carries t' _ book_precedence_entered
+      (sound_precedence (book_of t) (sound_held _ sound) first second place free)
       (rw (carriers, stops, precedences) (numbered_precedence t.carriers t.stops t.precedences (numbered_held _ _ _ right) new_record at))
 
 -- a precedence was struck
@@ -97,7 +98,10 @@ module _ (t t' : Tables) (k : ℕ)
 
   pub carries_strike : k < length t.precedences → Holds (Sound (book_of t)) → Holds (NumberedTables t) → Carries t'
   carries_strike within sound right =
-      let in_book : k < length (book_of t).precedences = subst (λ n. k < n) (sym (length-map t.precedences book_precedence)) within in
-      carries t'
-      (subst Sound (sym book_precedence_struck) (sound_strike (book_of t) (sound_held _ sound) k in_book))
+      let in_book : k < length (book_of t).precedences = rw (length-map t.precedences book_precedence) within in
+      carries t' _ book_precedence_struck
+      (sound_strike (book_of t) (sound_held _ sound) k in_book)
       (rw (carriers, stops, precedences) (numbered_strike t.carriers t.stops t.precedences (numbered_held _ _ _ right) k within))
+
+-- what an entry or a striking leaves
+pub ruleset left = (common_steps, map-gone_on, map-remove, length-map, length-remove)

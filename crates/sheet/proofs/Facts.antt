@@ -99,13 +99,17 @@ module _ (s : Sheet) where
       let at = slice_get-get_or ss p no_stop (omega arith) in
       (_, at, numbered_of.previous t p x _ e q at)
 
-  -- a stop with none before it is its carrier's first
-  pub none_starts : (t : ℕ) (x : Stop) → slice_get ss t ≡ Some x → x.previous ≡ None → Starts b x.carrier t x.place
-  none_starts t x e q = numbered_of.starts t x e q
-
   some_or_none : (o : Option ℕ) → (o ≡ None) ⊎ ((p : ℕ) × (o ≡ Some p))
   some_or_none None = inl refl
   some_or_none (Some p) = inr (p, refl)
+
+  -- a stop is its carrier's first, with none before it, or follows its previous one
+  before : (t : ℕ) (x : Stop) → slice_get ss t ≡ Some x → ((x.previous ≡ None) × Starts b x.carrier t x.place) ⊎ ((p u : ℕ) × (x.previous ≡ Some p) × Next b x.carrier p u t x.place)
+  before t x e =
+      ⊎_elim
+      (λ q. inl (q, numbered_of.starts t x e q))
+      (λ (p, q). let y = previous_next t p x e q in inr (p, y.0.place, q, y.2))
+      (some_or_none x.previous)
 
   -- a stop follows one stop, and a carrier has one first stop
   pub one_next : (c p u r w t v : ℕ) → Next b c p u t v → Next b c r w t v → p ≡ r
@@ -114,23 +118,14 @@ module _ (s : Sheet) where
   pub one_start : (c t u r w : ℕ) → Starts b c t u → Starts b c r w → (t ≡ r) × (u ≡ w)
   one_start c t u r w at by = grind (arith, one_visit)
 
-  -- the record of a stop keeps the one before it, or none where it is the first
+  -- the record of a stop keeps the one before it
   pub next_previous : (c p u t v : ℕ) (x : Stop) → slice_get ss t ≡ Some x → Next b c p u t v → x.previous ≡ Some p
   next_previous c p u t v x e on =
-      let its = one_visit t x.carrier x.place c v (visits_of t x e) on.there in
-      ⊎_elim
-      (λ q. absurd (grind (arith, none_starts t x e q)))
-      (λ (r, q). let y = previous_next t r x e q in let it = y.2 in grind (arith, it, one_next c r y.0.place p u t v))
-      (some_or_none x.previous)
+      grind (arith, before t x e, one_visit t x.carrier x.place c v (visits_of t x e) on.there, one_next)
 
   -- a stop is its carrier's first, or follows one
   pub first_or_next : (t c v : ℕ) → Visits b t c v → Starts b c t v ⊎ ((p u : ℕ) × Next b c p u t v)
-  first_or_next t c v z =
-      let x = visits_from t c v z in
-      ⊎_elim
-      (λ q. inl (grind (arith, x, none_starts t x.0 x.1 q)))
-      (λ (p, q). let y = previous_next t p x.0 x.1 q in inr (p, y.0.place, grind (arith, x, y)))
-      (some_or_none x.0.previous)
+  first_or_next t c v z = let x = visits_from t c v z in grind (arith, x, before t x.0 x.1)
 
   -- a stop that is not its carrier's latest has a next one
   next_below : (c a u : ℕ) → Visits b a c u → (n t v : ℕ) → t < n → a < t → Visits b t c v → (r w : ℕ) × Next b c a u r w

@@ -1,5 +1,5 @@
 -- Each number in a record is one of a record that stands.
-use Rattle.std.proofs.Common.{List, length, get_or, arith}
+use Rattle.std.proofs.Common.{List, length, arith}
 use Rattle.std.proofs.lemmas.List.{length-map}
 use Rattle.std.proofs.lemmas.Option.{slice_get-get_or}
 use Rattle.sheet.specs.declared.records.Carrier.{Carrier}
@@ -28,14 +28,13 @@ module _ (t : Tables) (sound : Sound (book_of t)) (right : NumberedTables t) whe
   stops_inside k l = grind (arith, sound.known k _ _ (visits_of cs ss ps k _ (slice_get-get_or ss k no_stop l)), length-map t.carriers book_carrier)
 
   pub stops_linked : Linked ss
-  stops_linked k p l e = right.earlier k p (get_or ss k no_stop) (slice_get-get_or ss k no_stop l) e
+  stops_linked k p l e = right.earlier k p _ (slice_get-get_or ss k no_stop l) e
 
   pub precedences_inside : PrecedencesInside (length t.carriers) (length t.stops) ps
   precedences_inside k l =
-      let x = get_or ps k no_precedence in
       let at = slice_get-get_or ps k no_precedence l in
-      let one = right.first_stop k x at in
-      let two = right.second_stop k x at in
+      let one = right.first_stop k _ at in
+      let two = right.second_stop k _ at in
       let n = length-map t.carriers book_carrier in
       let a = sound.known _ _ _ one in
       let b = sound.known _ _ _ two in

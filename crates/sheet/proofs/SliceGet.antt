@@ -2,8 +2,9 @@
 use Rattle.std.proofs.Common.{◌≡◌, ℕ, zero, suc, ◌+◌, ◌<◌, ◌≤◌, ◌⊎◌, List, [], ◌∷◌, ◌++◌, map, length, set, Some, refl, ap, ◌∙◌, arith, rules}
 use Rattle.std.specs.List.{remove, slice_get}
 use Rattle.std.specs.Option.{option_map}
-use Rattle.std.proofs.lemmas.List.{length_push}
-use Rattle.std.proofs.lemmas.Option.{none-some, same_Some, slice_get_within, slice_get-map}
+use Rattle.std.proofs.lemmas.Bool.{cases_eq}
+use Rattle.std.proofs.lemmas.List.{length_push, length-set, get_or-set_same, get_or-set_other}
+use Rattle.std.proofs.lemmas.Option.{none-some, same_Some, slice_get_within, slice_get-map, slice_get-get_or, get_or_from_slice_get}
 use Rattle.std.proofs.iter.runs.Lists.{nth_left, nth_seam}
 
 -- where what stands at i stood, at j, before the one at k was taken away
@@ -27,11 +28,7 @@ module _ {X : Type 0} where
 
   -- one record changed
   pub slice_get-set_cases : (xs : List X) (k i : ℕ) (y x : X) → slice_get (set xs k y) i ≡ Some x → ((¬ i ≡ k) × (slice_get xs i ≡ Some x)) ⊎ ((i ≡ k) × (y ≡ x))
-  slice_get-set_cases [] k i y x e = absurd (none-some x e)
-  slice_get-set_cases (z ∷ xs) zero zero y x e = grind arith
-  slice_get-set_cases (z ∷ xs) zero (suc i) y x e = grind arith
-  slice_get-set_cases (z ∷ xs) (suc k) zero y x e = grind arith
-  slice_get-set_cases (z ∷ xs) (suc k) (suc i) y x e = grind (arith, slice_get-set_cases xs k i y x e)
+  slice_get-set_cases xs k i y x e = grind (arith, cases_eq i k, slice_get_within (set xs k y) i x e, length-set xs k y, get_or_from_slice_get (set xs k y) i x y e, get_or-set_same xs k y y, get_or-set_other, slice_get-get_or xs i y)
 
 -- a record of a mapped list
 pub slice_get-map_some : {X Y : Type 0} (f : X → Y) (xs : List X) (i : ℕ) (x : X) → slice_get xs i ≡ Some x → slice_get (map f xs) i ≡ Some (f x)

@@ -4,7 +4,7 @@ use mathlib.Core.Logic.{∥∥₁_map}
 use Rattle.std.proofs.lemmas.Grind.{not_there}
 use Rattle.std.proofs.lemmas.List.{length_push}
 use Rattle.std.proofs.lemmas.Option.{slice_get_within}
-use Rattle.sheet.specs.Book.{Book, Goes, Visits, OnRoute, Starts}
+use Rattle.sheet.specs.Book.{Book, Goes, OnRoute, Starts}
 use Rattle.sheet.specs.Calls.{Accepts, checks, with_carrier}
 use Rattle.sheet.specs.Calls.Call.{enter_carrier}
 use Rattle.sheet.specs.Sound.{Sound, Holds}

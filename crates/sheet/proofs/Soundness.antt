@@ -1,5 +1,5 @@
 -- Every book that a lawful history leads to is sound.
-use Rattle.std.proofs.Common.{Ok, Err, sym, subst, rules}
+use Rattle.std.proofs.Common.{Ok, Err, rules}
 use Rattle.std.proofs.lemmas.Option.{none-some, slice_get_within}
 use Rattle.sheet.specs.Book.{Book, opened}
 use Rattle.sheet.specs.Calls.{Call, Answer, Answers, Leaves}
@@ -16,15 +16,15 @@ sound_opened = search (rules, none-some)
 
 -- a call keeps a book sound
 pub sound_after : (b b' : Book) (call : Call) (r : Answer) → Answers b call r → Leaves b call r b' → Sound b → Sound b'
-sound_after b b' call (Err refusal) a l sound = subst Sound (sym l) sound
-sound_after b b' (enter_carrier start goal) (Ok n) a l sound = subst Sound (sym l) (sound_carrier b sound start goal a.0)
-sound_after b b' (enter_stop carrier place) (Ok n) a l sound = subst Sound (sym l) (sound_stop b sound carrier place a.0)
-sound_after b b' (enter_precedence first second place) (Ok n) a l sound = subst Sound (sym l) (sound_precedence b sound first second place a.0)
-sound_after b b' (strike_precedence first second place) (Ok n) a l sound = subst Sound (sym l.2) (sound_strike b sound l.0 (slice_get_within b.precedences l.0 _ l.1))
+sound_after b b' call (Err refusal) a l sound = rw l sound
+sound_after b b' (enter_carrier start goal) (Ok n) a l sound = rw l (sound_carrier b sound start goal a.0)
+sound_after b b' (enter_stop carrier place) (Ok n) a l sound = rw l (sound_stop b sound carrier place a.0)
+sound_after b b' (enter_precedence first second place) (Ok n) a l sound = rw l (sound_precedence b sound first second place a.0)
+sound_after b b' (strike_precedence first second place) (Ok n) a l sound = rw l.2 (sound_strike b sound l.0 (slice_get_within b.precedences l.0 _ l.1))
 
 -- what holds of the opened book, and is kept by each event, holds of every book that a history leads to
 pub ever : {Event : Type 0} (Happens : Book → Event → Book → Type 0) (P : Book → Type 0) → P opened → ((b b' : Book) (e : Event) → Happens b e b' → P b → P b') → (h : History Event) (b : Book) → Leads Happens h b → P b
-ever Happens P first more opening b l = subst P (sym l) first
+ever Happens P first more opening b l = rw l first
 ever Happens P first more (h ▹ e) b l = more l.0 b e l.2 (ever Happens P first more h l.0 l.1)
 
 pub ever_sound : AlwaysSound

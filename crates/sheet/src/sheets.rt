@@ -186,6 +186,7 @@ impl Sheet {
     }
 
     // Checks whether a precedence may be entered, and answers the stops of first and second at the place.
+    #[tactic(auto, using(crate::proofs::Told::told))]
     fn check_precedence(&self, order: Order) -> Result<(u16, u16), EntryRefusal>
         ensures checked { Checked (sheet_book self.now) (enter_precedence order.first order.second order.place) result }
         ensures stops { IfOk result (λ s. Visits (sheet_book self.now) s.0 order.first order.place × Visits (sheet_book self.now) s.1 order.second order.place) }
@@ -249,6 +250,7 @@ impl Sheet {
     }
 
     // Enters a carrier's next stop, and answers the stop's number.
+    #[tactic(auto, using(crate::proofs::Entered::left))]
     pub fn enter_stop(&mut self, carrier: u8, place: u16) -> Result<u16, EntryRefusal>
         ensures answers { Answers (sheet_book self.old) (enter_stop carrier place) result }
         ensures leaves { Leaves (sheet_book self.old) (enter_stop carrier place) result (sheet_book self.new) }
@@ -304,6 +306,7 @@ impl Sheet {
     }
 
     // Strikes the precedence out, and answers how many then stand.
+    #[tactic(auto, using(crate::proofs::Entered::left))]
     pub fn strike_precedence(
         &mut self,
         first: u8,

@@ -1,5 +1,4 @@
-use Rattle.std.proofs.Common.{refl, arith, rules}
-use Rattle.std.proofs.lemmas.Grind.{common_steps}
+use Rattle.std.proofs.Common.{refl, rules}
 use Rattle.sheet.specs.declared.sheets.Tables.{Tables}
 use Rattle.sheet.proofs.Entered.{carries_precedence}
 use Rattle.sheet.proofs.sheets.Sheet.enter_precedence.Goals as goal
@@ -11,6 +10,3 @@ invariant_of-self c =
     let passed = c.in_ok-first_stop.ensures in
     let kept = carries_precedence self.tables t _ _ _ _ _ refl refl (c.push.ensures.pushed passed.room) self.sound self.numbered passed.checked passed.stops in
     search rules
-
-pub returns-in_err-first_stop-clause-goes_on : goal.returns-in_err-first_stop-clause-goes_on
-returns-in_err-first_stop-clause-goes_on c h led = grind (arith, common_steps)

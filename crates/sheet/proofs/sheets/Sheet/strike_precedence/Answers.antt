@@ -1,10 +1,6 @@
-use Rattle.std.proofs.Common.{refl, arith, rules}
-use Rattle.std.proofs.lemmas.Grind.{common_steps}
-use Rattle.std.proofs.lemmas.List.{length-map}
-use Rattle.std.proofs.lemmas.List.Edits.{length-remove}
+use Rattle.std.proofs.Common.{refl, rules}
 use Rattle.sheet.specs.declared.sheets.Tables.{Tables}
 use Rattle.sheet.proofs.Entered.{carries_strike}
-use Rattle.sheet.proofs.SliceGet.{map-remove}
 use Rattle.sheet.proofs.sheets.Sheet.strike_precedence.Goals as goal
 
 pub invariant_of-self : goal.invariant_of-self
@@ -13,9 +9,3 @@ invariant_of-self c =
     let t : Tables = record { carriers = self.tables.carriers; stops = self.tables.stops; precedences = c.remove.new.self } in
     let kept = carries_strike self.tables t _ refl refl (c.remove.ensures.removed c.in_ok-index.ensures.within) c.in_ok-index.ensures.within self.sound self.numbered in
     search rules
-
-pub returns-clause-leaves : goal.returns-clause-leaves
-returns-clause-leaves c = (c.in_ok-index.index, c.in_ok-index.ensures.stands, grind (arith, common_steps, map-remove))
-
-pub returns-clause-goes_on : goal.returns-clause-goes_on
-returns-clause-goes_on c h led = (_, led, ((c.in_ok-index.ensures.checked, grind (arith, common_steps, length-map, length-remove)), (c.in_ok-index.index, c.in_ok-index.ensures.stands, grind (arith, common_steps, map-remove))))
