@@ -3,6 +3,7 @@ use Rattle.std.proofs.Common.{◌≡◌, ℕ, zero, suc, ◌-◌, ◌*◌, ◌<�
 use mathlib.Core.Path.{subst₃}
 use native.Mathlib.Nat.{le-max_left}
 use lib.Signed.{le_z, lt_z}
+use Rattle.std.proofs.Math.ListN.{get_or-map}
 use Rattle.std.specs.List.{slice_get, Contains, list_any, list_all}
 use Rattle.std.proofs.iter.runs.Lists.{none-some, same_Some}
 use Rattle.std.proofs.lemmas.Bool.Decides.{nat_tests}
@@ -30,9 +31,7 @@ under_all n (t ∷ ts) h zero = leb-true _ _ (and_parts _ _ h).0
 under_all n (t ∷ ts) h (suc s) = under_all n ts (and_parts _ _ h).1 s
 
 zeros_under : (β : ℕ → ℕ) (xs : List BookStop) (v : ℕ) → slice_index_or (map (λ (x : BookStop). 0) xs) v 0 ≤ β v
-zeros_under β [] v = omega arith
-zeros_under β (x ∷ xs) zero = omega arith
-zeros_under β (x ∷ xs) (suc v) = zeros_under (λ w. β (suc w)) xs v
+zeros_under β xs v = omega (arith, get_or-map {B = ℕ} (λ (x : BookStop). 0) xs v (record { carrier = 0; place = 0 }))
 
 -- the nodes of a ring are distinct, and the first is the lowest
 abbrev apart? : (ℕ × ℕ) × (ℕ × ℕ) → Bool
