@@ -106,40 +106,13 @@ firsts : Lawful first_calls first_sheet
 firsts = lawful first_calls first_sheet refl refl tt
 
 little_grid : LittleGrid
-little_grid = record {
-  lawful = search rules;
-  there = refl;
-  back = refl;
-  on = refl;
-  back_again = refl;
-  not_past = refl;
-  closed_lawful = search rules;
-  closed_none = yards.laneless (grid 1 3 2 1) (2 ∷ []) refl;
-}
+little_grid = search (rules, yards.laneless)
 
 two_rows : TwoRows
-two_rows = record {
-  lawful = search rules;
-  along = refl;
-  across = refl;
-  across_back = refl;
-  not_round_the_end = refl;
-  not_aslant = refl;
-}
+two_rows = search rules
 
 lists_of_lanes : ListsOfLanes
-lists_of_lanes = record {
-  both_ways = yards.lawful (lane 0 1 1 ∷ lane 1 0 36000 ∷ []) refl;
-  no_time = yards.fault (lane 0 1 0 ∷ []) (BadLane 0) refl;
-  too_long = yards.fault (lane 0 1 36001 ∷ []) (BadLane 0) refl;
-  too_high = yards.fault (lane 0 4096 5 ∷ []) (BadLane 0) refl;
-  highest = yards.lawful (lane 0 4095 5 ∷ []) refl;
-  to_itself = yards.fault (lane 0 1 5 ∷ lane 3 3 5 ∷ []) (BadLane 1) refl;
-  twice = yards.fault (lane 0 1 5 ∷ lane 0 1 6 ∷ []) (NotRising 1) refl;
-  falling = yards.fault (lane 1 0 5 ∷ lane 0 1 5 ∷ []) (NotRising 1) refl;
-  falling_first = yards.fault (lane 1 0 5 ∷ lane 0 1 5 ∷ lane 2 2 5 ∷ []) (NotRising 1) refl;
-  bad_first = yards.fault (lane 1 0 5 ∷ lane 0 0 5 ∷ []) (BadLane 1) refl;
-}
+lists_of_lanes = search (rules, yards.lawful, yards.fault)
 
 pub examples : Examples
 examples = record {
