@@ -19,6 +19,7 @@ use Rattle.plan.specs.Theorems.{Positive, FromZero, LagsDecideIn}
 use Rattle.plan.proofs.Decided.{decide_in}
 use Rattle.judge.specs.Findings.{Setting, undecided, head_on, in_a_ring, passes, Finds}
 use Rattle.judge.specs.Judged.{UndecidedAt}
+use Rattle.worked.specs.Examples.{AreTheLags}
 use Rattle.worked.proofs.Lists.{Contains-here, Contains-later, Exactly, each_passes, decides_some, numbered, exactly_numbered, pairs, exactly_pairs}
 use Rattle.worked.proofs.Steps.{AStop, IsStop, IsLag, decided_numbers, visits, exactly_visits, open_meetings, exactly_open, opposed, exactly_opposed, lags, exactly_lags}
 use Rattle.worked.proofs.Tests.{home?, home, on_lanes?, on_lanes, whole?, whole, lowest?, lowest}
@@ -64,7 +65,7 @@ module _ (y : Setting) (b : Book) where
   all_lags = lags b y.lanes y.gap
 
   -- the lags are those listed
-  pub the_lags : (gs : List LagRecord) → all_lags ≡ gs → (s t : ℕ) (w : ℤ) → Lag y.lanes y.gap b s t w ↔ Listed gs s t w
+  pub the_lags : (gs : List LagRecord) → all_lags ≡ gs → AreTheLags y b gs
   the_lags gs e s t w =
       let g : LagRecord = record { from = s; to = t; weight = w } in
       let l = exactly_lags b y.lanes y.gap in (
