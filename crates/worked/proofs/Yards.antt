@@ -2,7 +2,7 @@
 use Rattle.std.proofs.Common.{◌≡◌, ℕ, zero, suc, ◌+◌, ◌-◌, ◌*◌, ◌<◌, ◌≤◌, Bool, true, not, ◌&&◌, ◌||◌, eqb, ltb, leb, List, [], ◌∷◌, length, slice_index_or, is_some, None, Decides, refl, subst, arith, rules}
 use Rattle.std.specs.List.{list_all}
 use Rattle.std.proofs.iter.runs.Lists.{none-some}
-use Rattle.std.proofs.lemmas.Bool.{and_parts, false≢true}
+use Rattle.std.proofs.lemmas.Bool.{and_parts}
 use Rattle.std.proofs.lemmas.Bool.Decides.{Decides-and, Decides-not, Decides-ltb, Decides-like, Decides-below_and, nat_tests}
 use Rattle.lane_yard.specs.declared.lane.Lane.{Lane}
 use Rattle.lane_yard.specs.declared.refusal.LayRefusal.{LayRefusal}
@@ -68,17 +68,6 @@ fault? xs TooManyLanes = ltb 8192 (length xs)
 fault? xs (BadLane i) = leb (length xs) 8192 && (ltb i (length xs) && (clean? xs i && not (within? (slice_index_or xs i no_lane))))
 fault? xs (NotRising i) = leb (length xs) 8192 && (ltb i (length xs) && (clean? xs i && (within? (slice_index_or xs i no_lane) && (ltb 0 i && not (before? (slice_index_or xs (i - 1) no_lane) (slice_index_or xs i no_lane))))))
 
--- the lanes before and at i do not rise
-decides_falling : (xs : List Lane) (i : ℕ) → Decides (ltb 0 i && not (before? (slice_index_or xs (i - 1) no_lane) (slice_index_or xs i no_lane))) ((0 < i) × ((k : ℕ) → k + 1 ≡ i → ¬ Before (slice_index_or xs k no_lane) (slice_index_or xs i no_lane)))
-decides_falling xs zero = (λ e. absurd (false≢true e), λ f. absurd (omega arith))
-decides_falling xs (suc k) =
-    let last = slice_index_or xs (suc k) no_lane in
-    let falls = Decides-and _ _ (Decides-ltb 0 (suc k)) (Decides-not _ (decides_before (slice_index_or xs (suc k - 1) no_lane) last)) in
-    Decides-like _
-    (λ f. (f.0, λ j e. let same : suc k - 1 ≡ j = omega arith in subst (λ i. ¬ Before (slice_index_or xs i no_lane) last) same f.1))
-    (λ f. (f.0, f.1 (suc k - 1) (omega arith)))
-    falls
-
 -- a fault of the lane at i, after lanes that are not too many and clean up to it
 decides_fault_at : {Faulty : Type 0} (xs : List Lane) (i : ℕ) (t : Bool) → Decides t Faulty → Decides (leb (length xs) 8192 && (ltb i (length xs) && (clean? xs i && t))) ((length xs ≤ 8192) × ((i < length xs) × (Clean xs i × Faulty)))
 decides_fault_at xs i t d =
@@ -90,8 +79,10 @@ fault xs (BadLane i) h =
     let (few, (inside, (clean, bad))) = (decides_fault_at xs i _ (Decides-not _ (decides_within (slice_index_or xs i no_lane)))).0 h in
     (few, inside, clean, bad)
 fault xs (NotRising i) h =
-    let (few, (inside, (clean, (within, (some, falls))))) = (decides_fault_at xs i _ (Decides-and _ _ (decides_within (slice_index_or xs i no_lane)) (decides_falling xs i))).0 h in
-    (few, inside, clean, within, some, falls)
+    let last = slice_index_or xs i no_lane in
+    let rising = decides_before (slice_index_or xs (i - 1) no_lane) last in
+    let (few, (inside, (clean, (within, (some, falls))))) = (decides_fault_at xs i _ (Decides-and _ _ (decides_within last) (Decides-and _ _ (Decides-ltb 0 i) (Decides-not _ rising)))).0 h in
+    (few, inside, clean, within, some, λ k e. let same : i - 1 ≡ k = omega arith in subst (λ j. ¬ Before (slice_index_or xs j no_lane) last) same falls)
 
 -- a grid without a lane between any two of its cells
 abbrev pub laneless? : Plan → List ℕ → Bool
