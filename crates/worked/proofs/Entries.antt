@@ -72,51 +72,45 @@ module _ (b : Book) where
       (λ r. search rules)
       (Decides-or _ _ (decides_standing c e u) (decides_standing e c u))
 
-  abbrev start? : ℕ → BookCarrier → Bool
-  start? u x = eqb x.start u
-
-  abbrev goal? : ℕ → BookCarrier → Bool
-  goal? v x = eqb x.goal v
-
   abbrev start_of? : ℕ → ℕ → Bool
-  start_of? c u = at? (start? u) (slice_get b.carriers c)
+  start_of? c u = at? (λ (x : BookCarrier). eqb x.start u) (slice_get b.carriers c)
 
   decides_start_of : (c u : ℕ) → Decides (start_of? c u) (StartOf b c u)
   decides_start_of c u =
       Decides-like _
       (λ r. (r.0.goal, rw (← r.2) r.1))
       (λ r. search rules)
-      (decides_at? (start? u) (λ (x : BookCarrier). x.start ≡ u) (λ x. Decides-eqb x.start u) (slice_get b.carriers c))
+      (decides_at? (λ (x : BookCarrier). eqb x.start u) (λ (x : BookCarrier). x.start ≡ u) (λ x. Decides-eqb x.start u) (slice_get b.carriers c))
 
   abbrev goal_of? : ℕ → ℕ → Bool
-  goal_of? c v = at? (goal? v) (slice_get b.carriers c)
+  goal_of? c v = at? (λ (x : BookCarrier). eqb x.goal v) (slice_get b.carriers c)
 
   decides_goal_of : (c v : ℕ) → Decides (goal_of? c v) (GoalOf b c v)
   decides_goal_of c v =
       Decides-like _
       (λ r. (r.0.start, rw (← r.2) r.1))
       (λ r. search rules)
-      (decides_at? (goal? v) (λ (x : BookCarrier). x.goal ≡ v) (λ x. Decides-eqb x.goal v) (slice_get b.carriers c))
+      (decides_at? (λ (x : BookCarrier). eqb x.goal v) (λ (x : BookCarrier). x.goal ≡ v) (λ x. Decides-eqb x.goal v) (slice_get b.carriers c))
 
   abbrev start_taken? : ℕ → Bool
-  start_taken? u = list_any (start? u) b.carriers
+  start_taken? u = list_any (λ (x : BookCarrier). eqb x.start u) b.carriers
 
   decides_start_taken : (u : ℕ) → Decides (start_taken? u) (StartTaken b u)
   decides_start_taken u =
       Decides-like _
       (λ r. (r.0, (r.1.goal, rw (← r.3) r.2)))
       (λ r. search rules)
-      (decides_somewhere (start? u) (λ (x : BookCarrier). x.start ≡ u) (λ x. Decides-eqb x.start u) b.carriers)
+      (decides_somewhere (λ (x : BookCarrier). eqb x.start u) (λ (x : BookCarrier). x.start ≡ u) (λ x. Decides-eqb x.start u) b.carriers)
 
   abbrev goal_taken? : ℕ → Bool
-  goal_taken? v = list_any (goal? v) b.carriers
+  goal_taken? v = list_any (λ (x : BookCarrier). eqb x.goal v) b.carriers
 
   decides_goal_taken : (v : ℕ) → Decides (goal_taken? v) (GoalTaken b v)
   decides_goal_taken v =
       Decides-like _
       (λ r. (r.0, (r.1.start, rw (← r.3) r.2)))
       (λ r. search rules)
-      (decides_somewhere (goal? v) (λ (x : BookCarrier). x.goal ≡ v) (λ x. Decides-eqb x.goal v) b.carriers)
+      (decides_somewhere (λ (x : BookCarrier). eqb x.goal v) (λ (x : BookCarrier). x.goal ≡ v) (λ x. Decides-eqb x.goal v) b.carriers)
 
   abbrev reached_goal? : ℕ → Bool
   reached_goal? c = at? (λ (x : BookCarrier). on_route? c x.goal) (slice_get b.carriers c)
