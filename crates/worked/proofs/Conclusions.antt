@@ -1,17 +1,15 @@
 -- What a judging finds in a book, by tests.
-use Rattle.std.proofs.Common.{◌≡◌, ℕ, zero, suc, ◌-◌, ◌*◌, ◌<◌, ◌≤◌, ◌↔◌, max, Bool, true, false, cond, not, ◌&&◌, ◌||◌, T, eqb, ltb, leb, List, [], ◌∷◌, map, length, slice_index_or, slice_index, ℤ, pos, ◌+ℤ◌, Some, None, Option, sym, refl, ◌∙◌, subst, ⊎_elim, le_trans, mul-le-mul_left, arith, rules}
-use mathlib.Core.Path.{subst₃}
+use Rattle.std.proofs.Common.{◌≡◌, ℕ, zero, suc, ◌-◌, ◌*◌, ◌<◌, ◌≤◌, max, Bool, true, not, ◌&&◌, ◌||◌, T, eqb, ltb, leb, List, [], ◌∷◌, map, length, slice_index_or, slice_index, ℤ, pos, ◌+ℤ◌, sym, ◌∙◌, subst, ⊎_elim, le_trans, mul-le-mul_left, arith, rules}
 use native.Mathlib.Nat.{le-max_left}
 use lib.Signed.{le_z, lt_z}
 use Rattle.std.proofs.Math.ListN.{get_or-map}
-use Rattle.std.specs.List.{slice_get, Contains, list_any, list_all}
-use Rattle.std.proofs.iter.runs.Lists.{none-some, same_Some}
+use Rattle.std.specs.List.{Contains, list_any, list_all}
+use Rattle.std.proofs.iter.runs.Lists.{none-some}
 use Rattle.std.proofs.lemmas.Bool.Decides.{nat_tests}
 use Rattle.std.proofs.lemmas.Bool.{and_parts, or_cases, eqb-true, leb-true}
 use Rattle.lags.specs.declared.Lag.{Lag as LagRecord}
 use Rattle.lags.specs.Solved.{Listed}
 use Rattle.lags.specs.Ways.{Way, Ring, Solution}
-use Rattle.lags.specs.Ways.Way.{last, more}
 use Rattle.sheet.specs.Book.{BookStop, Book, Visits}
 use Rattle.plan.specs.Lags.{Lag}
 use Rattle.plan.specs.Plans.{Opposed}
@@ -20,8 +18,8 @@ use Rattle.plan.proofs.Decided.{decide_in}
 use Rattle.judge.specs.Findings.{Setting, undecided, head_on, in_a_ring, passes, Finds}
 use Rattle.judge.specs.Judged.{UndecidedAt}
 use Rattle.worked.specs.Examples.{AreTheLags}
-use Rattle.worked.proofs.Lists.{Contains-here, Contains-later, Exactly, each_passes, decides_some, numbered, exactly_numbered, pairs, exactly_pairs}
-use Rattle.worked.proofs.Steps.{AStop, IsStop, IsLag, decided_numbers, visits, exactly_visits, open_meetings, exactly_open, opposed, exactly_opposed, lags, exactly_lags}
+use Rattle.worked.proofs.Lists.{Exactly, each_passes, decides_some, numbered, exactly_numbered, pairs, exactly_pairs}
+use Rattle.worked.proofs.Steps.{AStop, decided_numbers, visits, exactly_visits, open_meetings, exactly_open, opposed, exactly_opposed, lags, exactly_lags}
 use Rattle.worked.proofs.Tests.{home?, home, on_lanes?, on_lanes, whole?, whole, lowest?, lowest}
 use Rattle.worked.proofs.Rounds.{rounds, rounds_under}
 

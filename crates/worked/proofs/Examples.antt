@@ -1,9 +1,7 @@
 -- The worked examples come out.
 use Rattle.std.specs.List.{Contains}
-use Rattle.std.proofs.Common.{ℕ, ◌+◌, ◌≤◌, Bool, cond, [], ◌∷◌, pos, ◌+ℤ◌, ◌-ℤ◌, negsuc, Some, Ok, Err, refl, ap, arith, rules, lit<, lit≤}
+use Rattle.std.proofs.Common.{ℕ, ◌+◌, ◌≤◌, Bool, cond, [], ◌∷◌, pos, ◌+ℤ◌, ◌-ℤ◌, Some, Ok, Err, refl, ap, arith, rules, lit<, lit≤}
 use Rattle.std.proofs.lemmas.Bool.{le-ltb}
-use Rattle.lane_yard.specs.declared.refusal.LayRefusal.TheVariants.{BadLane, NotRising}
-use Rattle.lane_yard.specs.Records.{lane}
 use Rattle.sheet.specs.declared.refusal.EntryRefusal.TheVariants.{RouteAtGoal, PlaceTooHigh}
 use Rattle.sheet.specs.Book.{opened}
 use Rattle.sheet.specs.Calls.{enter_carrier, enter_stop}
@@ -15,7 +13,7 @@ use Rattle.plan.specs.Plans.{Gaps, Leg, head_on as meet_head_on}
 use Rattle.plan.specs.Theorems.{Positive}
 use Rattle.judge.specs.Findings.{Setting, passes}
 use Rattle.judge.specs.FindingHistories.{Event, entered, judged, Lawful}
-use Rattle.worked.specs.Examples.{LagIn, under, full_lane, lane_less_one, fixed_gap, lanes_of_P, P, S, S_struck, S_turned, judges_S, turns_S, LagsOfS, HeadOnApart, triangle_lanes, triangle, judges_triangle, triangle_sheet, judges_one, one_sheet, first_calls, first_sheet, grid, LittleGrid, TwoRows, ListsOfLanes, Examples}
+use Rattle.worked.specs.Examples.{LagIn, under, full_lane, lane_less_one, fixed_gap, lanes_of_P, P, S, S_struck, S_turned, judges_S, turns_S, LagsOfS, HeadOnApart, triangle_lanes, triangle, judges_triangle, triangle_sheet, judges_one, one_sheet, first_calls, first_sheet, LittleGrid, TwoRows, ListsOfLanes, Examples}
 use Rattle.worked.proofs.Steps.{ALeg, IsLeg, legs, exactly_legs}
 use Rattle.worked.proofs.Entries.{left}
 use Rattle.worked.proofs.Histories.{Conclusions, lawful}

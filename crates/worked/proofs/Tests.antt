@@ -1,7 +1,7 @@
 -- Tests of a whole book: that it is complete and orderly, and what is lowest in a list of pairs.
 use Rattle.std.proofs.Common.{◌≡◌, ℕ, Bool, true, not, ◌&&◌, ◌||◌, eqb, ltb, leb, ◌≢◌, List, is_some, Some, None, Decides, Option, refl, subst₂, arith, rules}
 use mathlib.Core.Path.{subst₃}
-use Rattle.std.specs.List.{slice_get, list_any, list_all}
+use Rattle.std.specs.List.{list_any, list_all}
 use Rattle.std.proofs.lemmas.Bool.{and_parts, false≢true}
 use Rattle.std.proofs.lemmas.Bool.Decides.{nat_tests}
 use Rattle.sheet.specs.Book.{BookCarrier, Book, Visits, Stands, GoalOf, Decided, Next}
@@ -10,7 +10,7 @@ use Rattle.plan.specs.Theorems.{Orderly}
 use Rattle.judge.specs.Lowest.{LowestPair}
 use Rattle.worked.proofs.Lists.{Exactly, each_passes, decides_some, numbered, exactly_numbered, pairs, exactly_pairs}
 use Rattle.worked.proofs.Entries.{on_route?, decides_on_route, decided?, decides_decided}
-use Rattle.worked.proofs.Steps.{AStop, APrecedence, ALeg, Step, IsStop, IsPrecedence, IsStep, IsLeg, decided_numbers, visits, exactly_visits, standing, exactly_standing, TwoStops, exactly_two, steps, exactly_steps, legs, exactly_legs}
+use Rattle.worked.proofs.Steps.{AStop, APrecedence, ALeg, Step, IsLeg, decided_numbers, visits, exactly_visits, standing, exactly_standing, exactly_two, steps, exactly_steps, legs, exactly_legs}
 
 some_there : (o : Option ℕ) → is_some o ≡ true → (d : ℕ) × (o ≡ Some d)
 some_there None h = absurd (false≢true h)

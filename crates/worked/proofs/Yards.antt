@@ -1,5 +1,5 @@
 -- Lists of lanes that may be laid and lists that are refused, and grids without lanes, by tests.
-use Rattle.std.proofs.Common.{◌≡◌, ℕ, zero, suc, ◌+◌, ◌-◌, ◌*◌, ◌<◌, ◌≤◌, Bool, true, not, ◌&&◌, ◌||◌, eqb, ltb, leb, List, [], ◌∷◌, length, slice_index_or, is_some, None, Decides, refl, subst, arith, rules}
+use Rattle.std.proofs.Common.{◌≡◌, ℕ, zero, suc, ◌+◌, ◌-◌, ◌*◌, ◌<◌, ◌≤◌, Bool, true, not, ◌&&◌, ◌||◌, eqb, ltb, leb, List, [], ◌∷◌, length, slice_index_or, is_some, None, Decides, refl, subst, arith}
 use Rattle.std.specs.List.{list_all}
 use Rattle.std.proofs.iter.runs.Lists.{none-some}
 use Rattle.std.proofs.lemmas.Bool.{and_parts}
