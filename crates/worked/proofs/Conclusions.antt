@@ -1,16 +1,16 @@
 -- What a judging finds in a book, by tests.
-use Rattle.std.proofs.Common.{◌≡◌, ℕ, zero, suc, ◌-◌, ◌*◌, ◌<◌, ◌≤◌, max, Bool, true, not, ◌&&◌, ◌||◌, T, eqb, ltb, leb, List, [], ◌∷◌, map, length, slice_index_or, slice_index, ℤ, pos, ◌+ℤ◌, sym, ◌∙◌, subst, ⊎_elim, le_trans, mul-le-mul_left, arith, rules}
+use Rattle.std.proofs.Common.{◌≡◌, ℕ, zero, suc, ◌-◌, ◌*◌, ◌<◌, ◌≤◌, max, Bool, true, not, ◌&&◌, ◌||◌, T, eqb, ltb, leb, List, [], ◌∷◌, map, length, slice_index_or, slice_index, ℤ, pos, ◌+ℤ◌, sym, ◌∙◌, subst, le_trans, mul-le-mul_left, arith, rules}
 use native.Mathlib.Nat.{le-max_left}
 use lib.Signed.{le_z, lt_z}
 use Rattle.std.proofs.Math.ListN.{get_or-map}
 use Rattle.std.specs.List.{Contains, list_any, list_all}
 use Rattle.std.proofs.iter.runs.Lists.{none-some}
 use Rattle.std.proofs.lemmas.Bool.Decides.{nat_tests}
-use Rattle.std.proofs.lemmas.Bool.{and_parts, or_cases, eqb-true, leb-true}
+use Rattle.std.proofs.lemmas.Bool.{and_parts, eqb-true, leb-true}
 use Rattle.lags.specs.declared.Lag.{Lag as LagRecord}
 use Rattle.lags.specs.Solved.{Listed}
 use Rattle.lags.specs.Ways.{Way, Ring, Solution}
-use Rattle.sheet.specs.Book.{BookStop, Book, Visits}
+use Rattle.sheet.specs.Book.{BookStop, Book}
 use Rattle.plan.specs.Lags.{Lag}
 use Rattle.plan.specs.Plans.{Opposed}
 use Rattle.plan.specs.Theorems.{Positive, FromZero, LagsDecideIn}
@@ -94,11 +94,10 @@ module _ (y : Setting) (b : Book) where
   from_zero : (times : List ℕ) → from_zero? times ≡ true → FromZero b (λ s. slice_index times s)
   from_zero times h c s u at =
       let p : AStop = (s, record { carrier = c; place = u }) in
-      ⊎_elim
-      (λ e. eqb-true _ _ e)
-      (λ e. let r = (decides_some (λ (q : AStop). (q.0 < s) × (q.1.carrier ≡ c)) (earlier? p) (exactly_visits b) (λ q. search (rules, decided_numbers))).0 e in
-      absurd (at.first r.0.0 r.0.1.place r.2.0 (subst (λ (z : ℕ). Visits b r.0.0 z r.0.1.place) r.2.1 r.1)))
-      (or_cases _ _ (each_passes _ (exactly_visits b) h p at.here))
+      let earlier = decides_some (λ (q : AStop). (q.0 < s) × (q.1.carrier ≡ c)) (earlier? p) (exactly_visits b) (λ q. search (rules, decided_numbers)) in
+      let none : ¬ list_any (earlier? p) (visits b) ≡ true = λ e. let (q, visit, (below, same)) = earlier.0 e in at.first q.0 q.1.place below (rw same at visit) in
+      let passes = each_passes (λ q. eqb (slice_index times q.0) 0 || list_any (earlier? q) (visits b)) (exactly_visits b) h p at.here in
+      grind (arith, nat_tests)
 
   -- a ceiling whatever the rule's largest gap is
   abbrev top : ℕ
