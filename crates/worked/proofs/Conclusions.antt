@@ -1,25 +1,25 @@
 -- What a judging finds in a book, by tests.
-use Rattle.std.proofs.Common.{◌≡◌, ℕ, zero, suc, ◌-◌, ◌*◌, ◌<◌, ◌≤◌, ◌↔◌, max, Bool, true, false, cond, not, ◌&&◌, ◌||◌, T, eqb, ltb, leb, List, [], ◌∷◌, map, length, slice_index_or, slice_index, ℤ, pos, ◌+ℤ◌, Some, None, Option, sym, refl, ◌∙◌, subst, ⊎_elim, le_trans, mul-le-mul_left, arith, rules}
-use mathlib.Core.Path.{subst₃}
+use Rattle.std.proofs.Common.{◌≡◌, ℕ, zero, suc, ◌-◌, ◌*◌, ◌<◌, ◌≤◌, max, Bool, true, not, ◌&&◌, ◌||◌, T, eqb, ltb, leb, List, [], ◌∷◌, map, length, slice_index_or, slice_index, ℤ, pos, ◌+ℤ◌, sym, ◌∙◌, subst, le_trans, mul-le-mul_left, arith, rules}
 use native.Mathlib.Nat.{le-max_left}
 use lib.Signed.{le_z, lt_z}
-use Rattle.std.specs.List.{slice_get, Contains, list_any, list_all}
-use Rattle.std.proofs.iter.runs.Lists.{none-some, same_Some}
+use Rattle.std.proofs.Math.ListN.{get_or-map}
+use Rattle.std.specs.List.{Contains, list_any, list_all}
+use Rattle.std.proofs.iter.runs.Lists.{none-some}
 use Rattle.std.proofs.lemmas.Bool.Decides.{nat_tests}
-use Rattle.std.proofs.lemmas.Bool.{and_parts, or_cases, eqb-true, leb-true}
+use Rattle.std.proofs.lemmas.Bool.{and_parts, eqb-true, leb-true}
 use Rattle.lags.specs.declared.Lag.{Lag as LagRecord}
 use Rattle.lags.specs.Solved.{Listed}
 use Rattle.lags.specs.Ways.{Way, Ring, Solution}
-use Rattle.lags.specs.Ways.Way.{last, more}
-use Rattle.sheet.specs.Book.{BookStop, Book, Visits}
+use Rattle.sheet.specs.Book.{BookStop, Book}
 use Rattle.plan.specs.Lags.{Lag}
 use Rattle.plan.specs.Plans.{Opposed}
 use Rattle.plan.specs.Theorems.{Positive, FromZero, LagsDecideIn}
 use Rattle.plan.proofs.Decided.{decide_in}
 use Rattle.judge.specs.Findings.{Setting, undecided, head_on, in_a_ring, passes, Finds}
 use Rattle.judge.specs.Judged.{UndecidedAt}
-use Rattle.worked.proofs.Lists.{Contains-here, Contains-later, Exactly, each_passes, decides_some, numbered, exactly_numbered, pairs, exactly_pairs}
-use Rattle.worked.proofs.Steps.{AStop, IsStop, IsLag, decided_numbers, visits, exactly_visits, open_meetings, exactly_open, opposed, exactly_opposed, lags, exactly_lags}
+use Rattle.worked.specs.Examples.{AreTheLags}
+use Rattle.worked.proofs.Lists.{Exactly, each_passes, decides_some, numbered, exactly_numbered, pairs, exactly_pairs}
+use Rattle.worked.proofs.Steps.{AStop, decided_numbers, visits, exactly_visits, open_meetings, exactly_open, opposed, exactly_opposed, lags, exactly_lags}
 use Rattle.worked.proofs.Tests.{home?, home, on_lanes?, on_lanes, whole?, whole, lowest?, lowest}
 use Rattle.worked.proofs.Rounds.{rounds, rounds_under}
 
@@ -30,9 +30,7 @@ under_all n (t ∷ ts) h zero = leb-true _ _ (and_parts _ _ h).0
 under_all n (t ∷ ts) h (suc s) = under_all n ts (and_parts _ _ h).1 s
 
 zeros_under : (β : ℕ → ℕ) (xs : List BookStop) (v : ℕ) → slice_index_or (map (λ (x : BookStop). 0) xs) v 0 ≤ β v
-zeros_under β [] v = omega arith
-zeros_under β (x ∷ xs) zero = omega arith
-zeros_under β (x ∷ xs) (suc v) = zeros_under (λ w. β (suc w)) xs v
+zeros_under β xs v = omega (arith, get_or-map {B = ℕ} (λ (x : BookStop). 0) xs v (record { carrier = 0; place = 0 }))
 
 -- the nodes of a ring are distinct, and the first is the lowest
 abbrev apart? : (ℕ × ℕ) × (ℕ × ℕ) → Bool
@@ -65,7 +63,7 @@ module _ (y : Setting) (b : Book) where
   all_lags = lags b y.lanes y.gap
 
   -- the lags are those listed
-  pub the_lags : (gs : List LagRecord) → all_lags ≡ gs → (s t : ℕ) (w : ℤ) → Lag y.lanes y.gap b s t w ↔ Listed gs s t w
+  pub the_lags : (gs : List LagRecord) → all_lags ≡ gs → AreTheLags y b gs
   the_lags gs e s t w =
       let g : LagRecord = record { from = s; to = t; weight = w } in
       let l = exactly_lags b y.lanes y.gap in (
@@ -96,11 +94,10 @@ module _ (y : Setting) (b : Book) where
   from_zero : (times : List ℕ) → from_zero? times ≡ true → FromZero b (λ s. slice_index times s)
   from_zero times h c s u at =
       let p : AStop = (s, record { carrier = c; place = u }) in
-      ⊎_elim
-      (λ e. eqb-true _ _ e)
-      (λ e. let r = (decides_some (λ (q : AStop). (q.0 < s) × (q.1.carrier ≡ c)) (earlier? p) (exactly_visits b) (λ q. search (rules, decided_numbers))).0 e in
-      absurd (at.first r.0.0 r.0.1.place r.2.0 (subst (λ (z : ℕ). Visits b r.0.0 z r.0.1.place) r.2.1 r.1)))
-      (or_cases _ _ (each_passes _ (exactly_visits b) h p at.here))
+      let earlier = decides_some (λ (q : AStop). (q.0 < s) × (q.1.carrier ≡ c)) (earlier? p) (exactly_visits b) (λ q. search (rules, decided_numbers)) in
+      let none : ¬ list_any (earlier? p) (visits b) ≡ true = λ e. let (q, visit, (below, same)) = earlier.0 e in at.first q.0 q.1.place below (rw same at visit) in
+      let passes = each_passes (λ q. eqb (slice_index times q.0) 0 || list_any (earlier? q) (visits b)) (exactly_visits b) h p at.here in
+      grind (arith, nat_tests)
 
   -- a ceiling whatever the rule's largest gap is
   abbrev top : ℕ

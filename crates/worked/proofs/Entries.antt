@@ -1,14 +1,16 @@
 -- What a book answers to a call, worked out by tests, and the book that the call leaves.
 use Rattle.std.proofs.Common.{◌≡◌, ℕ, ◌≤◌, Bool, true, false, cond, not, ◌&&◌, ◌||◌, eqb, ltb, leb, List, [], ◌∷◌, length, Some, None, Ok, Err, Decides, Option, refl, ap, ◌∙◌, ⊎_elim, arith, rules}
-use Rattle.std.specs.List.{slice_get, list_any}
+use Rattle.std.specs.List.{slice_get, list_any, position_or_len}
 use Rattle.std.proofs.iter.runs.Lists.{none-some, same_Some}
 use Rattle.std.proofs.lemmas.Bool.{false≢true, cases_Bool}
 use Rattle.std.proofs.lemmas.Bool.Decides.{Decides-eqb, Decides-ltb, Decides-not, Decides-or, Decides-like, not_from_Decides, nat_tests}
+use Rattle.std.proofs.lemmas.List.Folds.{Any-from_list_any, list_any_at}
+use Rattle.std.proofs.lemmas.Option.{slice_get_within, get_or_from_slice_get, slice_get-get_or}
 use Rattle.sheet.specs.declared.refusal.EntryRefusal.{EntryRefusal}
 use Rattle.sheet.specs.declared.refusal.EntryRefusal.TheVariants.{LimitReached, NoCarrier, EndTaken, RouteAtGoal, PlaceTooHigh, PlaceOnRoute, SameCarrier, NotOnBothRoutes, FirstsGoalOrSecondsStart, AlreadyDecided, NothingToStrike}
 use Rattle.sheet.specs.Book.{BookCarrier, BookStop, BookPrecedence, Book, StartOf, GoalOf, OnRoute, ReachedGoal, Decided}
 use Rattle.sheet.specs.Calls.{Call, enter_carrier, enter_stop, enter_precedence, strike_precedence, Answer, StartTaken, GoalTaken, Standing, Checks, no_more, check, checks, Refuses, Accepts, number, Answers, with_carrier, with_stop, with_precedence, without_precedence, Changes, Leaves}
-use Rattle.worked.proofs.Lists.{numbered, exactly_numbered, decides_some, number_at, stands_at}
+use Rattle.worked.proofs.Lists.{first_there}
 
 pub decides_leb : (a b : ℕ) → Decides (leb a b) (a ≤ b)
 decides_leb a b = grind (arith, nat_tests)
@@ -36,30 +38,26 @@ decides_precedence : (first second u : ℕ) (x : BookPrecedence) → Decides (is
 decides_precedence first second u x = grind (arith, nat_tests)
 
 -- something that passes a test stands in a list
-abbrev somewhere? : {A : Type 0} → (A → Bool) → List A → Bool
-somewhere? {A} t xs = list_any {X = ℕ × A} (λ p. t p.1) (numbered xs)
-
-decides_somewhere : {A : Type 0} (t : A → Bool) (Q : A → Type 0) → ((x : A) → Decides (t x) (Q x)) → (xs : List A) → Decides (somewhere? t xs) ((k : ℕ) × (x : A) × (slice_get xs k ≡ Some x) × Q x)
-decides_somewhere {A} t Q d xs =
-    Decides-like _
-    (λ r. (r.0.0, r.0.1, r.1, r.2))
-    (λ r. ((r.0, r.1), r.2, r.3))
-    (decides_some {A = ℕ × A} (λ p. Q p.1) (λ p. t p.1) (exactly_numbered xs) (λ p. d p.1))
+decides_somewhere : {A : Type 0} (t : A → Bool) (Q : A → Type 0) → ((x : A) → Decides (t x) (Q x)) → (xs : List A) → Decides (list_any t xs) ((k : ℕ) × (x : A) × (slice_get xs k ≡ Some x) × Q x)
+decides_somewhere t Q d xs = (
+  λ h. let (k, x, l, e, p) = Any-from_list_any t xs h in (k, x, slice_get-get_or xs k x l ∙ ap Some e, (d x).0 p),
+  λ (k, x, e, q). list_any_at t xs k x (slice_get_within xs k x e) (ap t (get_or_from_slice_get xs k x x e) ∙ (d x).1 q),
+)
 
 -- something equal to a value does
-decides_standing_value : {A : Type 0} (t : A → Bool) (v : A) → ((x : A) → Decides (t x) (x ≡ v)) → (xs : List A) → Decides (somewhere? t xs) ((k : ℕ) × (slice_get xs k ≡ Some v))
+decides_standing_value : {A : Type 0} (t : A → Bool) (v : A) → ((x : A) → Decides (t x) (x ≡ v)) → (xs : List A) → Decides (list_any t xs) ((k : ℕ) × (slice_get xs k ≡ Some v))
 decides_standing_value {A} t v d xs =
     Decides-like _ (λ r. (r.0, r.2 ∙ ap Some r.3)) (λ r. (r.0, v, r.1, refl)) (decides_somewhere t (λ x. x ≡ v) d xs)
 
 module _ (b : Book) where
   abbrev pub on_route? : ℕ → ℕ → Bool
-  on_route? c u = somewhere? (is_stop c u) b.stops
+  on_route? c u = list_any (is_stop c u) b.stops
 
   pub decides_on_route : (c u : ℕ) → Decides (on_route? c u) (OnRoute b c u)
   decides_on_route c u = decides_standing_value (is_stop c u) (record { carrier = c; place = u }) (decides_stop c u) b.stops
 
   abbrev pub standing? : ℕ → ℕ → ℕ → Bool
-  standing? first second u = somewhere? (is_precedence first second u) b.precedences
+  standing? first second u = list_any (is_precedence first second u) b.precedences
 
   pub decides_standing : (first second u : ℕ) → Decides (standing? first second u) (Standing b first second u)
   decides_standing first second u = decides_standing_value (is_precedence first second u) (record { first = first; second = second; place = u }) (decides_precedence first second u) b.precedences
@@ -74,51 +72,45 @@ module _ (b : Book) where
       (λ r. search rules)
       (Decides-or _ _ (decides_standing c e u) (decides_standing e c u))
 
-  abbrev start? : ℕ → BookCarrier → Bool
-  start? u x = eqb x.start u
-
-  abbrev goal? : ℕ → BookCarrier → Bool
-  goal? v x = eqb x.goal v
-
   abbrev start_of? : ℕ → ℕ → Bool
-  start_of? c u = at? (start? u) (slice_get b.carriers c)
+  start_of? c u = at? (λ (x : BookCarrier). eqb x.start u) (slice_get b.carriers c)
 
   decides_start_of : (c u : ℕ) → Decides (start_of? c u) (StartOf b c u)
   decides_start_of c u =
       Decides-like _
       (λ r. (r.0.goal, rw (← r.2) r.1))
       (λ r. search rules)
-      (decides_at? (start? u) (λ (x : BookCarrier). x.start ≡ u) (λ x. Decides-eqb x.start u) (slice_get b.carriers c))
+      (decides_at? (λ (x : BookCarrier). eqb x.start u) (λ (x : BookCarrier). x.start ≡ u) (λ x. Decides-eqb x.start u) (slice_get b.carriers c))
 
   abbrev goal_of? : ℕ → ℕ → Bool
-  goal_of? c v = at? (goal? v) (slice_get b.carriers c)
+  goal_of? c v = at? (λ (x : BookCarrier). eqb x.goal v) (slice_get b.carriers c)
 
   decides_goal_of : (c v : ℕ) → Decides (goal_of? c v) (GoalOf b c v)
   decides_goal_of c v =
       Decides-like _
       (λ r. (r.0.start, rw (← r.2) r.1))
       (λ r. search rules)
-      (decides_at? (goal? v) (λ (x : BookCarrier). x.goal ≡ v) (λ x. Decides-eqb x.goal v) (slice_get b.carriers c))
+      (decides_at? (λ (x : BookCarrier). eqb x.goal v) (λ (x : BookCarrier). x.goal ≡ v) (λ x. Decides-eqb x.goal v) (slice_get b.carriers c))
 
   abbrev start_taken? : ℕ → Bool
-  start_taken? u = somewhere? (start? u) b.carriers
+  start_taken? u = list_any (λ (x : BookCarrier). eqb x.start u) b.carriers
 
   decides_start_taken : (u : ℕ) → Decides (start_taken? u) (StartTaken b u)
   decides_start_taken u =
       Decides-like _
       (λ r. (r.0, (r.1.goal, rw (← r.3) r.2)))
       (λ r. search rules)
-      (decides_somewhere (start? u) (λ (x : BookCarrier). x.start ≡ u) (λ x. Decides-eqb x.start u) b.carriers)
+      (decides_somewhere (λ (x : BookCarrier). eqb x.start u) (λ (x : BookCarrier). x.start ≡ u) (λ x. Decides-eqb x.start u) b.carriers)
 
   abbrev goal_taken? : ℕ → Bool
-  goal_taken? v = somewhere? (goal? v) b.carriers
+  goal_taken? v = list_any (λ (x : BookCarrier). eqb x.goal v) b.carriers
 
   decides_goal_taken : (v : ℕ) → Decides (goal_taken? v) (GoalTaken b v)
   decides_goal_taken v =
       Decides-like _
       (λ r. (r.0, (r.1.start, rw (← r.3) r.2)))
       (λ r. search rules)
-      (decides_somewhere (goal? v) (λ (x : BookCarrier). x.goal ≡ v) (λ x. Decides-eqb x.goal v) b.carriers)
+      (decides_somewhere (λ (x : BookCarrier). eqb x.goal v) (λ (x : BookCarrier). x.goal ≡ v) (λ x. Decides-eqb x.goal v) b.carriers)
 
   abbrev reached_goal? : ℕ → Bool
   reached_goal? c = at? (λ (x : BookCarrier). on_route? c x.goal) (slice_get b.carriers c)
@@ -219,7 +211,7 @@ module _ (b : Book) where
   changed (enter_carrier start goal) = with_carrier b start goal
   changed (enter_stop c u) = with_stop b c u
   changed (enter_precedence first second u) = with_precedence b first second u
-  changed (strike_precedence first second u) = without_precedence b (number_at (is_precedence first second u) (numbered b.precedences))
+  changed (strike_precedence first second u) = without_precedence b (position_or_len (is_precedence first second u) b.precedences)
 
   changes : (call : Call) → Accepts (checks b call) → Changes b call (changed call)
   changes (enter_carrier start goal) ok = refl
@@ -227,8 +219,8 @@ module _ (b : Book) where
   changes (enter_precedence first second u) ok = refl
   changes (strike_precedence first second u) ok =
       ⊎_elim
-      (λ found. let at = stands_at (is_precedence first second u) (numbered b.precedences) found in
-      (number_at (is_precedence first second u) (numbered b.precedences), (exactly_numbered b.precedences).each _ at.1 ∙ ap Some ((decides_precedence first second u at.0).0 at.2), refl))
+      (λ found. let (x, at, is) = first_there (is_precedence first second u) b.precedences found in
+      (position_or_len (is_precedence first second u) b.precedences, at ∙ ap Some ((decides_precedence first second u x).0 is), refl))
       (λ none. absurd (ok.1.1.0 (not_from_Decides (standing? b first second u) (decides_standing b first second u) none)))
       (cases_Bool (standing? b first second u))
 

@@ -1,9 +1,7 @@
 -- The worked examples come out.
 use Rattle.std.specs.List.{Contains}
-use Rattle.std.proofs.Common.{ℕ, ◌+◌, ◌≤◌, Bool, cond, [], ◌∷◌, pos, ◌+ℤ◌, ◌-ℤ◌, negsuc, Some, Ok, Err, refl, ap, arith, rules, lit<, lit≤}
+use Rattle.std.proofs.Common.{ℕ, ◌+◌, ◌≤◌, Bool, cond, [], ◌∷◌, pos, ◌+ℤ◌, ◌-ℤ◌, Some, Ok, Err, refl, ap, arith, rules, lit<, lit≤}
 use Rattle.std.proofs.lemmas.Bool.{le-ltb}
-use Rattle.lane_yard.specs.declared.refusal.LayRefusal.TheVariants.{BadLane, NotRising}
-use Rattle.lane_yard.specs.Records.{lane}
 use Rattle.sheet.specs.declared.refusal.EntryRefusal.TheVariants.{RouteAtGoal, PlaceTooHigh}
 use Rattle.sheet.specs.Book.{opened}
 use Rattle.sheet.specs.Calls.{enter_carrier, enter_stop}
@@ -15,7 +13,7 @@ use Rattle.plan.specs.Plans.{Gaps, Leg, head_on as meet_head_on}
 use Rattle.plan.specs.Theorems.{Positive}
 use Rattle.judge.specs.Findings.{Setting, passes}
 use Rattle.judge.specs.FindingHistories.{Event, entered, judged, Lawful}
-use Rattle.worked.specs.Examples.{LagIn, under, full_lane, lane_less_one, fixed_gap, lanes_of_P, P, S, S_struck, S_turned, judges_S, turns_S, LagsOfS, HeadOnApart, triangle_lanes, triangle, judges_triangle, triangle_sheet, judges_one, one_sheet, first_calls, first_sheet, grid, LittleGrid, TwoRows, ListsOfLanes, Examples}
+use Rattle.worked.specs.Examples.{LagIn, under, full_lane, lane_less_one, fixed_gap, lanes_of_P, P, S, S_struck, S_turned, judges_S, turns_S, LagsOfS, HeadOnApart, triangle_lanes, triangle, judges_triangle, triangle_sheet, judges_one, one_sheet, first_calls, first_sheet, LittleGrid, TwoRows, ListsOfLanes, Examples}
 use Rattle.worked.proofs.Steps.{ALeg, IsLeg, legs, exactly_legs}
 use Rattle.worked.proofs.Entries.{left}
 use Rattle.worked.proofs.Histories.{Conclusions, lawful}
@@ -45,12 +43,7 @@ S_judged gap largest =
     ((S_passes, (lit≤ tt, finds_undecided y S_struck 2 5 refl refl)), (lit≤ tt, finds_head_on y S_turned P_positive refl 1 2 refl))
 
 S_lags : LagsOfS
-S_lags = record {
-  by_full_lane = the_lags (full_lane P) S _ refl;
-  by_lane_less_one = the_lags (lane_less_one P) S _ refl;
-  by_gap_0 = the_lags (fixed_gap 0 P) S _ refl;
-  by_gap_1 = the_lags (fixed_gap 1 P) S _ refl;
-}
+S_lags = search (rules, the_lags)
 
 -- carrier 0's leg from place 1 to place 2, and carrier 1's back
 there : Leg P S_turned 0 2 1 3 2 2
@@ -90,7 +83,7 @@ triangle_judged =
 
 module _ (y : Setting) (positive : Positive y.lanes) where
   nobody : Lawful (opening ▹ judged y 0 (Some (passes []))) opened
-  nobody = lawful (opening ▹ judged y 0 (Some (passes []))) opened refl refl (tt, (lit≤ tt, finds_passes y opened positive refl refl [] refl refl))
+  nobody = search (rules, lawful, positive, finds_passes)
 
   -- the refused stop: its place is not too high
   one_that_stays : (u : ℕ) → u ≤ 4095 → Lawful (judges_one y u) one_sheet
@@ -103,60 +96,19 @@ module _ (y : Setting) (positive : Positive y.lanes) where
       (tt, (lit≤ tt, finds_passes y one_sheet positive refl refl (0 ∷ []) refl refl))
 
 firsts : Lawful first_calls first_sheet
-firsts = lawful first_calls first_sheet refl refl tt
+firsts = search (rules, lawful)
 
 little_grid : LittleGrid
-little_grid = record {
-  lawful = search rules;
-  there = refl;
-  back = refl;
-  on = refl;
-  back_again = refl;
-  not_past = refl;
-  closed_lawful = search rules;
-  closed_none = yards.laneless (grid 1 3 2 1) (2 ∷ []) refl;
-}
+little_grid = search (rules, yards.laneless)
 
 two_rows : TwoRows
-two_rows = record {
-  lawful = search rules;
-  along = refl;
-  across = refl;
-  across_back = refl;
-  not_round_the_end = refl;
-  not_aslant = refl;
-}
+two_rows = search rules
 
 lists_of_lanes : ListsOfLanes
-lists_of_lanes = record {
-  both_ways = yards.lawful (lane 0 1 1 ∷ lane 1 0 36000 ∷ []) refl;
-  no_time = yards.fault (lane 0 1 0 ∷ []) (BadLane 0) refl;
-  too_long = yards.fault (lane 0 1 36001 ∷ []) (BadLane 0) refl;
-  too_high = yards.fault (lane 0 4096 5 ∷ []) (BadLane 0) refl;
-  highest = yards.lawful (lane 0 4095 5 ∷ []) refl;
-  to_itself = yards.fault (lane 0 1 5 ∷ lane 3 3 5 ∷ []) (BadLane 1) refl;
-  twice = yards.fault (lane 0 1 5 ∷ lane 0 1 6 ∷ []) (NotRising 1) refl;
-  falling = yards.fault (lane 1 0 5 ∷ lane 0 1 5 ∷ []) (NotRising 1) refl;
-  falling_first = yards.fault (lane 1 0 5 ∷ lane 0 1 5 ∷ lane 2 2 5 ∷ []) (NotRising 1) refl;
-  bad_first = yards.fault (lane 1 0 5 ∷ lane 0 0 5 ∷ []) (BadLane 1) refl;
-}
+lists_of_lanes = search (rules, yards.lawful, yards.fault)
 
 pub examples : Examples
-examples = record {
-  lists_of_lanes = lists_of_lanes;
-  P_laid = yards.lawful lanes_of_P refl;
-  triangle_laid = yards.lawful triangle_lanes refl;
-  S_judged = S_judged;
-  S_lags = S_lags;
-  S_head_on = head_on_apart;
-  triangle_judged = triangle_judged;
-  lags_full_lane = the_lags (full_lane triangle) triangle_sheet _ refl;
-  lags_lane_less_one = the_lags (lane_less_one triangle) triangle_sheet _ refl;
-  ring_sum_full_lane = triangle_ring (full_lane triangle).gap 36000;
-  ring_sum_lane_less_one = triangle_ring (lane_less_one triangle).gap 35999;
-  nobody = nobody;
-  one_that_stays = λ y u positive h. one_that_stays y positive u h;
-  firsts = firsts;
-  little_grid = little_grid;
-  two_rows = two_rows;
-}
+examples =
+    let full_lane_sum : Way (LagIn (full_lane triangle) triangle_sheet) 3 (3 ∷ 5 ∷ 4 ∷ []) 3 (pos 3) = triangle_ring (full_lane triangle).gap 36000 in
+    let less_one_sum : Way (LagIn (lane_less_one triangle) triangle_sheet) 3 (3 ∷ 5 ∷ 4 ∷ []) 3 (pos 0) = triangle_ring (lane_less_one triangle).gap 35999 in
+    search (rules, lists_of_lanes, yards.lawful, S_judged, S_lags, head_on_apart, triangle_judged, the_lags, full_lane_sum, less_one_sum, nobody, one_that_stays, firsts, little_grid, two_rows)

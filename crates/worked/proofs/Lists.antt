@@ -1,12 +1,11 @@
 -- Lists that contain exactly what holds, put together from lists, and tests that go through them.
-use Rattle.std.proofs.Common.{◌≡◌, ℕ, zero, suc, ◌<◌, Bool, true, false, cond, ◌||◌, ◌⊎◌, List, [], ◌∷◌, ◌++◌, length, slice_index_or, Some, None, Decides, Option, sym, refl, ap, ◌∙◌, subst, inl, inr, ⊎_elim, zero-add, arith}
-use Rattle.std.specs.List.{slice_get, Contains, list_any, list_all, flat_map, filter_map, cons_option, enumerate_from}
-use Rattle.std.proofs.iter.runs.Lists.{none-some, same_Some}
+use Rattle.std.proofs.Common.{◌≡◌, ℕ, zero, suc, ◌<◌, Bool, true, false, cond, ◌⊎◌, List, [], ◌∷◌, ◌++◌, length, slice_index_or, Some, Decides, sym, refl, ap, ◌∙◌, subst, inl, inr, ⊎_elim, zero-add, arith}
+use Rattle.std.specs.List.{slice_get, Contains, list_any, list_all, position_or_len, flat_map, enumerate_from}
 use Rattle.std.proofs.lemmas.Bool.{false≢true}
 use Rattle.std.proofs.lemmas.List.Elements.{All-contains, Contains-append_left, Contains-append_right, Contains-append_cases}
 use Rattle.std.proofs.lemmas.List.Folds.{Any-from_list_any, list_any_at}
 use Rattle.std.proofs.lemmas.List.FromFn.{get_or-enumerate_from, length-enumerate_from}
-use Rattle.std.proofs.lemmas.List.Sums.{AllPass-from_list_all}
+use Rattle.std.proofs.lemmas.List.Sums.{AllPass-from_list_all, fails_before_first, passes_at_first}
 use Rattle.std.proofs.lemmas.Option.{slice_get_within, get_or_from_slice_get, slice_get-get_or}
 
 -- the list contains exactly what P holds of
@@ -68,18 +67,13 @@ module _ {A : Type 0} where
         );
   }
 
--- the first number at which a test passes
-abbrev pub number_at : {A : Type 0} → (A → Bool) → List (ℕ × A) → ℕ
-number_at t [] = 0
-number_at t (p ∷ ps) = cond (t p.1) p.0 (number_at t ps)
-
-pub stands_at : {A : Type 0} (t : A → Bool) (ps : List (ℕ × A)) → list_any {X = ℕ × A} (λ p. t p.1) ps ≡ true → (x : A) × Contains {X = ℕ × A} ps (number_at t ps, x) × (t x ≡ true)
-stands_at t [] h = absurd (false≢true h)
-stands_at {A} t (p ∷ ps) h = go (stands_at t ps) (t p.1) refl h
-  where
-    go : (list_any {X = ℕ × A} (λ q. t q.1) ps ≡ true → (x : A) × Contains {X = ℕ × A} ps (number_at t ps, x) × (t x ≡ true)) → (v : Bool) → t p.1 ≡ v → (v || list_any {X = ℕ × A} (λ q. t q.1) ps) ≡ true → (x : A) × Contains {X = ℕ × A} (p ∷ ps) (cond v p.0 (number_at t ps), x) × (t x ≡ true)
-    go later true e k = (p.1, Contains-here p ps, e)
-    go later false e k = let r = later k in (r.0, Contains-later p ps (number_at t ps, r.0) r.1, r.2)
+-- what stands at the first place where a test passes
+pub first_there : {A : Type 0} (t : A → Bool) (xs : List A) → list_any t xs ≡ true → (x : A) × (slice_get xs (position_or_len t xs) ≡ Some x) × (t x ≡ true)
+first_there t xs h =
+    let (k, x, l, e, p) = Any-from_list_any t xs h in
+    let early : ¬ k < position_or_len t xs = λ m. false≢true (sym (fails_before_first t xs k x m) ∙ ap t e ∙ p) in
+    let inside : position_or_len t xs < length xs = omega arith in
+    (slice_index_or xs (position_or_len t xs) x, slice_get-get_or xs (position_or_len t xs) x inside, passes_at_first t xs x inside)
 
 -- what comes of the elements, one after another
 Contains-flat_map : {A B : Type 0} (f : A → List B) (xs : List A) (x : A) (y : B) → Contains xs x → Contains (f x) y → Contains (flat_map f xs) y

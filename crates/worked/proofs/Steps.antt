@@ -1,7 +1,6 @@
 -- Exactly the steps, the legs, the lags, the open meetings and the opposed stops of a book, listed.
 use Rattle.std.proofs.Common.{◌≡◌, ℕ, ◌+◌, ◌<◌, Bool, true, not, [], ◌∷◌, sym, arith, ◌&&◌, eqb, ltb, ◌≢◌, ◌⊎◌, List, ◌++◌, ℤ, pos, ◌-ℤ◌, Some, None, Decides, Option, refl, ap, ◌∙◌, subst, subst₂, inl, inr, rules}
 use Rattle.std.specs.List.{Contains, list_any, flat_map}
-use Rattle.std.proofs.iter.runs.Lists.{none-some, same_Some}
 use Rattle.std.proofs.lemmas.Bool.Decides.{Decides-eqb, Decides-ltb, Decides-not, Decides-and}
 use Rattle.lags.specs.declared.Lag.{Lag as LagRecord}
 use Rattle.sheet.specs.Book.{BookStop, BookPrecedence, Book, Visits, Stands, Next, Decided}

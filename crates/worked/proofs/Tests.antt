@@ -1,7 +1,7 @@
 -- Tests of a whole book: that it is complete and orderly, and what is lowest in a list of pairs.
 use Rattle.std.proofs.Common.{◌≡◌, ℕ, Bool, true, not, ◌&&◌, ◌||◌, eqb, ltb, leb, ◌≢◌, List, is_some, Some, None, Decides, Option, refl, subst₂, arith, rules}
 use mathlib.Core.Path.{subst₃}
-use Rattle.std.specs.List.{slice_get, list_any, list_all}
+use Rattle.std.specs.List.{list_any, list_all}
 use Rattle.std.proofs.lemmas.Bool.{and_parts, false≢true}
 use Rattle.std.proofs.lemmas.Bool.Decides.{nat_tests}
 use Rattle.sheet.specs.Book.{BookCarrier, Book, Visits, Stands, GoalOf, Decided, Next}
@@ -10,7 +10,7 @@ use Rattle.plan.specs.Theorems.{Orderly}
 use Rattle.judge.specs.Lowest.{LowestPair}
 use Rattle.worked.proofs.Lists.{Exactly, each_passes, decides_some, numbered, exactly_numbered, pairs, exactly_pairs}
 use Rattle.worked.proofs.Entries.{on_route?, decides_on_route, decided?, decides_decided}
-use Rattle.worked.proofs.Steps.{AStop, APrecedence, ALeg, Step, IsStop, IsPrecedence, IsStep, IsLeg, decided_numbers, visits, exactly_visits, standing, exactly_standing, TwoStops, exactly_two, steps, exactly_steps, legs, exactly_legs}
+use Rattle.worked.proofs.Steps.{AStop, APrecedence, ALeg, Step, IsLeg, decided_numbers, visits, exactly_visits, standing, exactly_standing, exactly_two, steps, exactly_steps, legs, exactly_legs}
 
 some_there : (o : Option ℕ) → is_some o ≡ true → (d : ℕ) × (o ≡ Some d)
 some_there None h = absurd (false≢true h)
@@ -48,18 +48,14 @@ module _ (lanes : Lanes) (b : Book) where
       let passes = each_passes _ (exactly_two b) h p (here, there) in
       (decides_decided b c e u).0 (grind (arith, nat_tests))
 
-  abbrev complete? : Bool
-  complete? = home? && (on_lanes? && all_decided?)
-
-  complete : complete? ≡ true → Complete lanes b
-  complete h =
-      let p = and_parts _ _ h in
-      let q = and_parts _ _ p.1 in
-      record { home = home p.0; on_lanes = on_lanes q.0; decided = all_decided q.1 }
-
   -- who goes first and who goes second differ
   abbrev differ? : Bool
   differ? = list_all (λ (k : APrecedence). not (eqb k.1.first k.1.second)) (standing b)
+
+  differ : differ? ≡ true → (k first second u : ℕ) → Stands b k first second u → first ≢ second
+  differ d k first second u stands =
+      let passes = each_passes (λ (p : APrecedence). not (eqb p.1.first p.1.second)) (exactly_standing b) d (k, record { first = first; second = second; place = u }) stands in
+      grind (arith, nat_tests)
 
   -- a leg of the first carrier's begins at its stop
   abbrev Begins : APrecedence × AStop → ALeg → Type 0
@@ -85,21 +81,17 @@ module _ (lanes : Lanes) (b : Book) where
       let l = (decides_begins p).0 (grind (arith, nat_tests)) in
       (l.0.0.t, l.0.0.v, l.0.1, subst₃ (λ (c s u : ℕ). Leg lanes b c s u l.0.0.t l.0.0.v l.0.1) l.2.0 l.2.1.0 l.2.1.1 l.1)
 
-  orderly : differ? ≡ true → goes_on? ≡ true → Orderly lanes b
-  orderly d g = record {
-    differ = λ k first second u stands. let passes = each_passes _ (exactly_standing b) d (k, record { first = first; second = second; place = u }) stands in grind (arith, nat_tests);
-    goes_on = goes_on g;
-  }
-
   -- a complete and orderly book
   abbrev pub whole? : Bool
-  whole? = complete? && (differ? && goes_on?)
+  whole? = (home? && (on_lanes? && all_decided?)) && (differ? && goes_on?)
 
   pub whole : whole? ≡ true → Complete lanes b × Orderly lanes b
   whole h =
       let p = and_parts _ _ h in
-      let q = and_parts _ _ p.1 in
-      (complete p.0, orderly q.0 q.1)
+      let q = and_parts _ _ p.0 in
+      let r = and_parts _ _ q.1 in
+      let s = and_parts _ _ p.1 in
+      (record { home = home q.0; on_lanes = on_lanes r.0; decided = all_decided r.1 }, record { differ = differ s.0; goes_on = goes_on s.1 })
 
 -- the pair (s, t) is in the list, and none in it is lower
 abbrev is_pair : ℕ → ℕ → ℕ × ℕ → Bool
