@@ -1,4 +1,4 @@
-// The judging of a sheet. What it works in are arrays, since judging takes no memory (a rule of the project).
+// The judging of a sheet. Its tables are arrays, since judging takes no memory (a rule of the project).
 ghost use Rattle.std.specs.Prelude.{◌≡◌, ℕ, ◌^◌, ◌<◌, ◌≤◌, max, ◌++◌, length, drop, MatchResult, slice_index};
 ghost use Rattle.judge.specs.Judged.{judging_of};
 ghost use Rattle.judge.specs.JudgedFully.{JudgedFully};
