@@ -1,4 +1,4 @@
-// The judging of a sheet.
+// The judging of a sheet. Its tables are arrays, since judging takes no memory (a rule of the project).
 ghost use Rattle.std.specs.Prelude.{◌≡◌, ℕ, ◌^◌, ◌<◌, ◌≤◌, max, ◌++◌, length, drop, MatchResult, slice_index};
 ghost use Rattle.judge.specs.Judged.{judging_of};
 ghost use Rattle.judge.specs.JudgedFully.{JudgedFully};
@@ -12,7 +12,6 @@ use crate::marks::Marks;
 use crate::refusal::JudgeRefusal;
 use crate::routes::Routes;
 use crate::tables::Tables;
-use crate::waits::Lags;
 use lags::{Unsolved, solve};
 use sheet::limits::MOST_STOPS;
 use sheet::sheets::Sheet;
@@ -42,8 +41,7 @@ fn settle<R: FollowingRule>(
     requires ring { length tables.routes.stops.now ≤ length ring.old }
     ensures { Settles (Between (R.FollowingRule.gaps rule.now) tables.entry.routes.stops.now tables.entry.legs.now tables.entry.routes.precedences.now) (length tables.entry.routes.stops.now) (max 36000 R.FollowingRule.LARGEST_GAP) (record { timetable = timetable.old; ring = ring.old; timetable_after = timetable.new; ring_after = ring.new }) result }
 {
-    let mut lags = Lags::new();
-    tables.gather_lags(rule, &mut lags);
+    let lags = tables.gather_lags(rule);
     let mut arrivals = [0; MOST_STOPS];
     let arrivals = &mut arrivals[0..tables.legs.len()];
     match solve(&lags, arrivals, ring) {
@@ -60,8 +58,7 @@ fn settle<R: FollowingRule>(
 fn check_precedences(tables: Tables) -> Result<(), JudgeRefusal>
     ensures { MatchResult result (λ _. PrecedencesClear tables.entry.routes.stops.now tables.entry.legs.now tables.entry.routes.precedences.now) (λ e. PrecedencesRefused tables.entry.routes.stops.now tables.entry.legs.now tables.entry.routes.precedences.now e) }
 {
-    let mut marks = Marks::none();
-    marks.mark(tables.routes);
+    let marks = Marks::of(tables.routes);
     tables.routes.check_meetings(&marks)?;
     tables.check_head_on(&marks)
 }

@@ -1,4 +1,4 @@
-// Who goes first where two routes meet.
+// Who goes first where two routes meet. The links are in arrays, since judging takes no memory (a rule of the project).
 ghost use Rattle.std.specs.Prelude.{◌≡◌, ℕ, ◌<◌, ◌≤◌, ◌↔◌, IsTrue, length, Some, None, MatchOption, MatchResult, slice_index_or};
 ghost use Rattle.sheet.specs.Records.{no_stop};
 ghost use Rattle.judge.specs.Chains.{Chained};
@@ -12,9 +12,10 @@ use crate::routes::Routes;
 use crate::tables::Tables;
 use sheet::limits::MOST_STOPS;
 use sheet::records::{Precedence, Stop};
+use yard::limits::HIGHEST_PLACE;
 
 // By this number the stops are linked: as many as there are places, so that no two places of a yard have one remainder.
-const REMAINDERS: usize = 4096;
+const REMAINDERS: usize = HIGHEST_PLACE as usize + 1;
 
 // Links each stop to the lowest later one whose place has the same remainder by 4,096, and so to all later ones at its
 // place, one by one. It goes by number, since the links are numbers.
@@ -89,7 +90,7 @@ impl Routes<'_> {
     }
 
     // Refuses the lowest stop that meets a later one without a precedence, with the lowest such later one. The links lie
-    // here and `ByPlace` borrows them; arrays, since judging takes no memory.
+    // here and `ByPlace` borrows them.
     pub(crate) fn check_meetings(self, marks: &Marks) -> Result<(), JudgeRefusal>
         ensures { MatchResult result (λ _. (s t : ℕ) → ¬ OpenMeeting self.entry.stops.now marks.now.first s t) (λ e. (s : ℕ) × (t : ℕ) × (e ≡ Undecided s t) × LowestPair (OpenMeeting self.entry.stops.now marks.now.first) s t) }
     {
@@ -118,9 +119,11 @@ impl Tables<'_> {
         let t = usize::from(precedence.first_stop);
         let s = usize::from(stops[usize::from(precedence.second_stop)].previous?);
         let target = usize::from(legs[t].next?);
-        (stops[target].place == stops[s].place && marks.goes_first(s, precedence.first)).then_some((
-            s, t,
-        ))
+        if stops[target].place == stops[s].place && marks.goes_first(s, precedence.first) {
+            Some((s, t))
+        } else {
+            None
+        }
     }
 
     // The lowest pair of stops that are set head on. As a chain with `min` it was left unproved: what `filter_map` gives is

@@ -22,14 +22,15 @@ fn waiting_time(gap: u32, time: u16) -> i32
 }
 
 impl Tables<'_> {
-    // Adds the lag of the step to each stop that has one before it to the empty list. By `enumerate`, as the legs are found.
-    fn gather_steps(self, lags: &mut Lags)
-        requires { array_vec_len lags.old ≡ 0 }
-        ensures few { array_vec_len lags.new ≤ length self.entry.routes.stops.now }
-        ensures gathered { Lists (Travel self.entry.routes.stops.now self.entry.legs.now (length self.entry.routes.stops.now)) lags.new.items }
+    // The lag of the step to each stop that has one before it. By `enumerate`, as the legs are found.
+    #[inline]
+    fn gather_steps(self) -> Lags
+        ensures few { array_vec_len result ≤ length self.entry.routes.stops.now }
+        ensures gathered { Lists (Travel self.entry.routes.stops.now self.entry.legs.now (length self.entry.routes.stops.now)) result.items }
     {
         let stops = self.routes.stops;
         let legs = self.legs;
+        let mut lags = Lags::new();
         for (t, stop) in stops.iter().enumerate() {
             if let Some(previous) = stop.previous {
                 lags.push(Lag {
@@ -39,6 +40,7 @@ impl Tables<'_> {
                 });
             }
         }
+        lags
     }
 
     // The lag of a precedence: the second carrier reaches the place later than the gap after the first one's
@@ -72,12 +74,13 @@ impl Tables<'_> {
         }
     }
 
-    // Adds the lags of the steps and of the precedences to the empty list.
-    pub(crate) fn gather_lags<R: FollowingRule>(self, rule: &R, lags: &mut Lags)
-        requires { array_vec_len lags.old ≡ 0 }
-        ensures { Lists (LagOf (R.FollowingRule.gaps rule.now) self.entry.routes.stops.now self.entry.legs.now self.entry.routes.precedences.now (length self.entry.routes.stops.now) (length self.entry.routes.precedences.now)) lags.new.items }
+    // The lags of the steps and of the precedences.
+    #[inline]
+    pub(crate) fn gather_lags<R: FollowingRule>(self, rule: &R) -> Lags
+        ensures { Lists (LagOf (R.FollowingRule.gaps rule.now) self.entry.routes.stops.now self.entry.legs.now self.entry.routes.precedences.now (length self.entry.routes.stops.now) (length self.entry.routes.precedences.now)) result.items }
     {
-        self.gather_steps(lags);
-        self.gather_waits(rule, lags);
+        let mut lags = self.gather_steps();
+        self.gather_waits(rule, &mut lags);
+        lags
     }
 }
