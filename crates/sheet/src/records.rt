@@ -113,7 +113,7 @@ impl Order {
     }
 
     // The same two carriers at the place, the other way round.
-    pub(crate) fn reversed(&self) -> Order
+    pub fn reversed(&self) -> Order
         ensures { result ≡ record { first = self.now.second; second = self.now.first; place = self.now.place } }
     {
         Order {
