@@ -21,7 +21,8 @@ pub(crate) enum Fault {
     Judge { why: JudgeRefusal },
 }
 
-// The conversions are written out: the kit's derive for errors would want a text for each refusal, and nobody prints one.
+// The conversions are written out: the kit's derive for errors would want a text for each refusal, and nobody prints
+// one.
 impl From<AllocError> for Fault {
     fn from(_why: AllocError) -> Fault {
         Fault::NoMemory
@@ -65,7 +66,8 @@ impl Fault {
     }
 }
 
-// What is told of a fault counts once, and its number so many times: a pass has fewer stops, and a fault tells less.
+// A fault is its number, plus one, in units of this, plus what it tells. No pass has so many stops, and no fault tells
+// so much.
 const NUMBER_UNIT: u32 = 65536;
 
 // One number for an outcome: the number of stops of a pass, or 65,536 times one more than the refusal's number, plus

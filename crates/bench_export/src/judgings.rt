@@ -12,8 +12,8 @@ use std::alloc::Global;
 use yard::rules::{FixedGap, FullLane, LaneLessOne, Rule};
 use yard::{FollowingRule, Yard};
 
-// A sheet that is measured: its entries, the rule of its judgings, and how often it is entered and judged. The two pages
-// are no part of it: contracts speak of the timetable as it is left.
+// A sheet that is measured: its entries, the rule of its judgings, and how often it is entered and judged. The two
+// pages are no part of it: contracts speak of the timetable as it is left.
 #[derive(Clone, Copy)]
 struct Run<'a> {
     // Fours: kind, then the fields in the order of a line, then 0 where there are fewer than three.
@@ -63,8 +63,8 @@ impl Run<'_> {
         Ok(judge(sheet, yard, rule, timetable, ring)?)
     }
 
-    // Enters the sheet and judges it in the yard. Each arm runs the judging that is made for one rule; a type for any rule
-    // would be no plainer, as its value would be made by the same match.
+    // Enters the sheet and judges it in the yard. Each arm runs the judging that is made for one rule, so that no
+    // switch is inside what is measured.
     fn in_yard<Y: Yard>(
         &self,
         heap: Global,
@@ -79,6 +79,7 @@ impl Run<'_> {
             Rule::FullLane => self.judge_often(&sheet, yard, &FullLane, timetable, ring),
             Rule::LaneLessOne => self.judge_often(&sheet, yard, &LaneLessOne, timetable, ring),
             Rule::FixedGap { gap } => {
+                // A gap above 36,000 is judged as a gap of 0.
                 let fixed = FixedGap::try_from(gap).unwrap_or(FixedGap::new());
                 self.judge_often(&sheet, yard, &fixed, timetable, ring)
             }
@@ -86,7 +87,7 @@ impl Run<'_> {
     }
 }
 
-// A yard with the lanes, laid so many times.
+// A yard with the lanes, laid so many times. The loop counts, as it repeats one call.
 fn lay(heap: Global, lanes: &[u16], layings: u32) -> Result<LaneYard, Fault> {
     let lanes = lanes_of(heap, lanes)?;
     let mut yard = LaneYard::new(heap)?;
@@ -98,8 +99,8 @@ fn lay(heap: Global, lanes: &[u16], layings: u32) -> Result<LaneYard, Fault> {
 
 // Lays the lanes so many times, enters the sheet so many times, and judges it so many times. The lanes are triples:
 // from, to, travel time. The entries are fours: kind, then the fields in the order of a line, then 0 where there are
-// fewer than three. The answer is 0 where nothing is judged; one below 65,536 is a pass, with as many arrivals at the
-// front of the timetable.
+// fewer than three. A gap above 36,000 is judged as a gap of 0. The answer is 0 where nothing is judged; one below
+// 65,536 is a pass, with as many arrivals at the front of the timetable.
 #[unsafe(no_mangle)]
 pub extern "C" fn vozhdeka_judge_lanes(
     heap: Global,

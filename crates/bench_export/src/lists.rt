@@ -14,13 +14,13 @@ pub(crate) fn lanes_of(heap: Global, numbers: &[u16]) -> Result<Vec<Lane>, Alloc
         .collect(heap)
 }
 
-// A number as that of a carrier, the highest where it is too high. A sheet has no carrier of that number and says so, so
-// that an `Option` here would only repeat the sheet's own check.
+// A number as that of a carrier, the highest where it is too high. A sheet has no carrier of that number and says so,
+// so that an `Option` here would only repeat the sheet's own check.
 fn carrier_of(number: u16) -> u8 {
     u8::try_from(number).unwrap_or(u8::MAX)
 }
 
-// Makes the call of an entry: its kind, then its fields in the order of a line.
+// Makes the call of an entry: its kind, then its fields in the order of a line. The C interface has numbers for kinds.
 fn enter(sheet: &mut Sheet, entry: &[u16; 4]) -> Result<u16, EntryRefusal> {
     match *entry {
         [1, start, goal, _] => sheet.enter_carrier(start, goal),

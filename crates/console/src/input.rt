@@ -3,6 +3,9 @@ use lines::buffer::LineBuffer;
 use std::io;
 use std::io::{Read, Write};
 
+// The most bytes of one read. They go into an array of fixed size, so that no line needs memory.
+const CHUNK: usize = 16384;
+
 // What a program does with the lines of an input.
 pub trait TakesLines {
     // Takes the next line, without its newline and with no byte past the 65th, and writes what is to be said of it.
@@ -10,7 +13,8 @@ pub trait TakesLines {
 }
 
 // Takes bytes of the input, and gives the taker each line that ends in them.
-// Byte by byte: parts between newlines would need a loop within the loop to go into the buffer.
+// Byte by byte: a buffer that takes whole parts at once was tried; the program was no quicker for it, and the loop no
+// plainer.
 fn take_bytes(
     bytes: &[u8],
     taker: &mut impl TakesLines,
@@ -35,8 +39,9 @@ pub(crate) fn for_each_chunk<F: FnMut(&[u8]) -> io::Result<()>>(
 ) -> io::Result<()>
     requires { F.IsAlwaysCallable take }
 {
-    let mut chunk = [0; 16384];
-    // How many chunks there are nobody knows: the count stands in for a loop without an end.
+    let mut chunk = [0; CHUNK];
+    // A rule of the project: a `loop` that waits for input without a handle to wait by is counted. No input has so many
+    // chunks.
     for _ in 0..u64::MAX {
         let count = input.read(&mut chunk)?;
         if count == 0 {

@@ -2,7 +2,7 @@
 use crate::files::load_yard;
 use crate::input::{TakesLines, take_lines};
 use lane_yard::yards::LaneYard;
-use replies::LONGEST_REPLY;
+use replies::{LONGEST_REPLY, REFUSAL_REPLY};
 use session::answer::Refusal;
 use session::sessions::{Session, write_refusal};
 use std::io;
@@ -29,9 +29,9 @@ impl TakesLines for Replier {
     }
 }
 
-// Writes the one reply to a yard that is refused.
+// Writes the one reply to a yard that is refused, from a page of fixed size too.
 fn refuse_yard(refusal: Refusal, out: &mut impl Write) -> io::Result<()> {
-    let mut page = [0; 10];
+    let mut page = [0; REFUSAL_REPLY];
     let count = write_refusal(refusal, &mut page).unwrap();
     put_reply(&page[..count], out)
 }

@@ -3,6 +3,7 @@ use Rattle.std.specs.Prelude.{◌≡◌, ℕ, ◌<◌, ◌≤◌, ◌⊎◌, len
 use Rattle.lines.specs.declared.entry.Entry.{Entry}
 use Rattle.lines.specs.declared.entry.Entry.TheVariants as entry
 use Rattle.sheet.specs.Records.{no_carrier}
+use Rattle.sheet.specs.declared.records.Order.{Order}
 use Rattle.sheet.specs.declared.refusal.EntryRefusal.{EntryRefusal}
 use Rattle.sheet.specs.declared.refusal.EntryRefusal.TheVariants as refusal
 use Rattle.explain.specs.Facts.{Absent, AtGoal, Orders, Visits}
@@ -26,9 +27,9 @@ refusal_of (SameCarrier carrier) = refusal.SameCarrier
 refusal_of (NotOnRoute carrier place) = refusal.NotOnBothRoutes
 refusal_of (FirstsGoal carrier place) = refusal.FirstsGoalOrSecondsStart
 refusal_of (SecondsStart carrier place) = refusal.FirstsGoalOrSecondsStart
-refusal_of (Decided first second place) = refusal.AlreadyDecided
-refusal_of (NoPrecedence first second place) = refusal.NothingToStrike
-refusal_of (OtherWayRound first second place) = refusal.NothingToStrike
+refusal_of (Decided order) = refusal.AlreadyDecided
+refusal_of (NoPrecedence order) = refusal.NothingToStrike
+refusal_of (OtherWayRound order) = refusal.NothingToStrike
 
 -- why a carrier is refused
 abbrev pub CarrierCause : Lists → ℕ → ℕ → Cause → Type 0
@@ -45,9 +46,9 @@ CarrierCause lists start goal (SameCarrier c) = ⊥
 CarrierCause lists start goal (NotOnRoute c place) = ⊥
 CarrierCause lists start goal (FirstsGoal c place) = ⊥
 CarrierCause lists start goal (SecondsStart c place) = ⊥
-CarrierCause lists start goal (Decided a b place) = ⊥
-CarrierCause lists start goal (NoPrecedence a b place) = ⊥
-CarrierCause lists start goal (OtherWayRound a b place) = ⊥
+CarrierCause lists start goal (Decided order) = ⊥
+CarrierCause lists start goal (NoPrecedence order) = ⊥
+CarrierCause lists start goal (OtherWayRound order) = ⊥
 
 -- why a stop is refused
 abbrev pub StopCause : Lists → ℕ → ℕ → Cause → Type 0
@@ -64,34 +65,38 @@ StopCause lists carrier place (SameCarrier c) = ⊥
 StopCause lists carrier place (NotOnRoute c p) = ⊥
 StopCause lists carrier place (FirstsGoal c p) = ⊥
 StopCause lists carrier place (SecondsStart c p) = ⊥
-StopCause lists carrier place (Decided a b p) = ⊥
-StopCause lists carrier place (NoPrecedence a b p) = ⊥
-StopCause lists carrier place (OtherWayRound a b p) = ⊥
+StopCause lists carrier place (Decided order) = ⊥
+StopCause lists carrier place (NoPrecedence order) = ⊥
+StopCause lists carrier place (OtherWayRound order) = ⊥
+
+-- the same two carriers at the place, the other way round
+abbrev reversed : Order → Order
+reversed order = record { first = order.second; second = order.first; place = order.place }
 
 -- why a precedence, or the striking of one, is refused
-abbrev pub OrderCause : Lists → ℕ → ℕ → ℕ → Cause → Type 0
-OrderCause lists first second place TooManyCarriers = ⊥
-OrderCause lists first second place TooManyStops = ⊥
-OrderCause lists first second place TooManyPrecedences = 2048 ≤ length lists.precedences
-OrderCause lists first second place (NoCarrier c n) = ((c ≡ first) ⊎ (c ≡ second)) × Absent lists.carriers c n
-OrderCause lists first second place (StartTaken p c) = ⊥
-OrderCause lists first second place (GoalTaken p c) = ⊥
-OrderCause lists first second place (cause.AtGoal c goal) = ⊥
-OrderCause lists first second place (PlaceTooHigh p) = ⊥
-OrderCause lists first second place (OnRoute c p k) = ⊥
-OrderCause lists first second place (SameCarrier c) = (c ≡ first) × (c ≡ second)
-OrderCause lists first second place (NotOnRoute c p) = ((c ≡ first) ⊎ (c ≡ second)) × (p ≡ place) × ((k : ℕ) → ¬ Visits lists.stops c p k)
-OrderCause lists first second place (FirstsGoal c p) = (c ≡ first) × (p ≡ place) × (c < length lists.carriers) × ((slice_index_or lists.carriers c no_carrier).goal ≡ p)
-OrderCause lists first second place (SecondsStart c p) = (c ≡ second) × (p ≡ place) × (c < length lists.carriers) × ((slice_index_or lists.carriers c no_carrier).start ≡ p)
-OrderCause lists first second place (Decided a b p) = (((a ≡ first) × (b ≡ second)) ⊎ ((a ≡ second) × (b ≡ first))) × (p ≡ place) × ((k : ℕ) × Orders lists.precedences a b p k)
-OrderCause lists first second place (NoPrecedence a b p) = (a ≡ first) × (b ≡ second) × (p ≡ place) × ((k : ℕ) → ¬ Orders lists.precedences a b p k) × ((k : ℕ) → ¬ Orders lists.precedences b a p k)
-OrderCause lists first second place (OtherWayRound a b p) = (a ≡ second) × (b ≡ first) × (p ≡ place) × ((k : ℕ) × Orders lists.precedences a b p k) × ((k : ℕ) → ¬ Orders lists.precedences b a p k)
+abbrev pub OrderCause : Lists → Order → Cause → Type 0
+OrderCause lists asked TooManyCarriers = ⊥
+OrderCause lists asked TooManyStops = ⊥
+OrderCause lists asked TooManyPrecedences = 2048 ≤ length lists.precedences
+OrderCause lists asked (NoCarrier c n) = ((c ≡ asked.first) ⊎ (c ≡ asked.second)) × Absent lists.carriers c n
+OrderCause lists asked (StartTaken p c) = ⊥
+OrderCause lists asked (GoalTaken p c) = ⊥
+OrderCause lists asked (cause.AtGoal c goal) = ⊥
+OrderCause lists asked (PlaceTooHigh p) = ⊥
+OrderCause lists asked (OnRoute c p k) = ⊥
+OrderCause lists asked (SameCarrier c) = (c ≡ asked.first) × (c ≡ asked.second)
+OrderCause lists asked (NotOnRoute c p) = ((c ≡ asked.first) ⊎ (c ≡ asked.second)) × (p ≡ asked.place) × ((k : ℕ) → ¬ Visits lists.stops c p k)
+OrderCause lists asked (FirstsGoal c p) = (c ≡ asked.first) × (p ≡ asked.place) × (c < length lists.carriers) × ((slice_index_or lists.carriers c no_carrier).goal ≡ p)
+OrderCause lists asked (SecondsStart c p) = (c ≡ asked.second) × (p ≡ asked.place) × (c < length lists.carriers) × ((slice_index_or lists.carriers c no_carrier).start ≡ p)
+OrderCause lists asked (Decided o) = ((o ≡ asked) ⊎ (o ≡ reversed asked)) × ((k : ℕ) × Orders lists.precedences o.first o.second o.place k)
+OrderCause lists asked (NoPrecedence o) = (o ≡ asked) × ((k : ℕ) → ¬ Orders lists.precedences o.first o.second o.place k) × ((k : ℕ) → ¬ Orders lists.precedences o.second o.first o.place k)
+OrderCause lists asked (OtherWayRound o) = (o ≡ reversed asked) × ((k : ℕ) × Orders lists.precedences o.first o.second o.place k) × ((k : ℕ) → ¬ Orders lists.precedences o.second o.first o.place k)
 
 -- why an entry is refused
 abbrev pub CauseOf : Lists → Entry → Cause → Type 0
 CauseOf lists (entry.Carrier start goal) cause = CarrierCause lists start goal cause
 CauseOf lists (entry.Stop carrier place) cause = StopCause lists carrier place cause
-CauseOf lists (entry.Precedence first second place) cause = OrderCause lists first second place cause
-CauseOf lists (entry.Strike first second place) cause = OrderCause lists first second place cause
+CauseOf lists (entry.Precedence first second place) cause = OrderCause lists (record { first = first; second = second; place = place }) cause
+CauseOf lists (entry.Strike first second place) cause = OrderCause lists (record { first = first; second = second; place = place }) cause
 CauseOf lists (entry.Judge rule) cause = ⊥
 CauseOf lists (entry.Lane from to time) cause = ⊥

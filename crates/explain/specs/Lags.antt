@@ -17,8 +17,8 @@ module _ (lanes : ℕ → ℕ → Option ℕ) (rule : Rule FixedGap) (lists : Li
     pub reaches : (slice_index_or lists.stops t no_stop).place ≡ to
     pub lane : lanes from to ≡ Some time
 
-  -- the first carrier goes first at the place, and on to stop s at the next place; stop t is that of the second carrier at
-  -- the place
+  -- the first carrier goes first at the place, and on to stop s at the next place; stop t is that of the second carrier
+  -- at the place
   pub record Waits (first second place next gap time : ℕ) : Type 0 where
     pub k : ℕ
     pub stands : k < length lists.precedences

@@ -4,7 +4,8 @@ use Rattle.lane_yard.specs.declared.lane.Lane.{Lane}
 use Rattle.explain.specs.declared.lane_fault.LaneFault.{LaneFault}
 use Rattle.explain.specs.declared.lane_fault.LaneFault.TheVariants.{PlaceTooHigh, NoWay, BadTime, NotRising}
 
--- the number of the refusal that a fault explains; the refusal itself also tells an index, which the fault does not know
+-- the number of the refusal that a fault explains
+-- the refusal itself also tells an index, which the fault does not know
 abbrev pub fault_number : LaneFault → ℕ
 fault_number (PlaceTooHigh place) = 18
 fault_number (NoWay place) = 18

@@ -68,9 +68,28 @@ impl Site<'_> {
             Refusal::Line { .. } | Refusal::Lay { .. } => writeln!(out, "REFUSED ({number})"),
         }
     }
+
+    // Writes what a reply lists, where it lists anything: the arrivals of a pass, or the stops of a ring. Only a
+    // judging under a rule within the limits finds a ring.
+    fn write_listed(self, entry: Entry, reply: Reply<'_>, out: &mut impl Write) -> io::Result<()> {
+        match (reply, entry) {
+            (Reply::Passed { arrivals }, _) => {
+                Timetable {
+                    site: self,
+                    arrivals,
+                }
+                .write(out)
+            }
+            (Reply::Ring { stops }, Entry::Judge { rule }) => match AnyRule::try_from(rule) {
+                Ok(rule) => Judging { site: self, rule }.write_ring(stops, out),
+                Err(_) => Ok(()),
+            },
+            _ => Ok(()),
+        }
+    }
 }
 
-// Writes what came of an entry. Only a judging under a rule within the limits finds a ring.
+// Writes what came of an entry.
 pub(crate) fn write_answer(
     session: &Session,
     entry: Entry,
@@ -78,20 +97,13 @@ pub(crate) fn write_answer(
     out: &mut impl Write,
 ) -> io::Result<()> {
     let site = Site::of(session);
-    if let Err(refusal) = outcome {
-        site.write_refused(entry, refusal, out)?;
-    }
-    match session.reply_to(outcome) {
-        Reply::Accepted { number } => site.records.write_accepted(entry, number, out),
-        Reply::Passed { arrivals } => Timetable { site, arrivals }.write(out),
-        Reply::Ring { stops } => {
-            if let Entry::Judge { rule } = entry
-                && let Ok(rule) = AnyRule::try_from(rule)
-            {
-                Judging { site, rule }.write_ring(stops, out)?;
-            }
-            Ok(())
+    let reply = session.reply_to(outcome);
+    match outcome {
+        Ok(Answer::Accepted { number }) => site.records.write_accepted(entry, number, out),
+        Ok(Answer::Passed { .. }) => site.write_listed(entry, reply, out),
+        Err(refusal) => {
+            site.write_refused(entry, refusal, out)?;
+            site.write_listed(entry, reply, out)
         }
-        Reply::Refused { .. } => Ok(()),
     }
 }

@@ -1,6 +1,7 @@
 // A cause of a refusal.
 use crate::text::Counted;
 use sheet::limits::{MOST_CARRIERS, MOST_PRECEDENCES, MOST_STOPS};
+use sheet::records::Order;
 use std::fmt;
 use yard::limits::HIGHEST_PLACE;
 
@@ -60,21 +61,15 @@ pub(crate) enum Cause {
     },
     // The two have this precedence at the place.
     Decided {
-        first: u8,
-        second: u8,
-        place: u16,
+        order: Order,
     },
     // The two have no precedence at the place.
     NoPrecedence {
-        first: u8,
-        second: u8,
-        place: u16,
+        order: Order,
     },
     // The two have only this precedence at the place, not the one that is to be struck.
     OtherWayRound {
-        first: u8,
-        second: u8,
-        place: u16,
+        order: Order,
     },
 }
 
@@ -98,6 +93,7 @@ impl fmt::Display for Cause {
             Cause::NoCarrier { carrier, carriers } => write!(
                 f,
                 "there is no carrier {carrier}, as the sheet has {}",
+                // `as`: there is no `From<usize>` for `u64`.
                 Counted {
                     number: carriers as u64,
                     noun: "carrier",
@@ -141,25 +137,31 @@ impl fmt::Display for Cause {
                 "place {place} is the start of carrier {carrier}, which is there from the beginning"
             ),
             Cause::Decided {
-                first,
-                second,
-                place,
+                order: Order {
+                    first,
+                    second,
+                    place,
+                },
             } => write!(
                 f,
                 "carrier {first} goes before carrier {second} at place {place} already"
             ),
             Cause::NoPrecedence {
-                first,
-                second,
-                place,
+                order: Order {
+                    first,
+                    second,
+                    place,
+                },
             } => write!(
                 f,
                 "carriers {first} and {second} have no precedence at place {place}"
             ),
             Cause::OtherWayRound {
-                first,
-                second,
-                place,
+                order: Order {
+                    first,
+                    second,
+                    place,
+                },
             } => write!(
                 f,
                 "at place {place} it is the other way round: carrier {first} goes before carrier {second}"

@@ -1,4 +1,5 @@
-// Finding why the sheet refuses an entry.
+// Finding why the sheet refuses an entry. `OrderCause` stands in three contracts, each beside the refusal that the
+// cause explains, which is another one in each: a definition of both would take as many words.
 ghost use Rattle.std.specs.Prelude.{◌≡◌, ℕ, ◌<◌, ◌≤◌, length, IfSome};
 ghost use Rattle.std.specs.Option.{SomeIff};
 ghost use Rattle.sheet.specs.declared.refusal.EntryRefusal.TheVariants.{EndTaken, FirstsGoalOrSecondsStart, NothingToStrike};
@@ -7,7 +8,7 @@ ghost use Rattle.explain.specs.Facts.{AtGoal, Orders, Visits};
 ghost use Rattle.explain.specs.declared.cause.Cause.TheVariants.{Decided, NoCarrier, NotOnRoute, PlaceTooHigh};
 
 use crate::cause::Cause;
-use crate::records::{Records, reversed};
+use crate::records::Records;
 use keyed::find;
 use lines::entry::Entry;
 use sheet::limits::{MOST_CARRIERS, MOST_PRECEDENCES, MOST_STOPS};
@@ -113,46 +114,30 @@ impl Records<'_> {
 
     // The cause that the precedence stands, where it does.
     fn decided(&self, order: Order) -> Option<Cause>
-        ensures { SomeIff result ((k : ℕ) × Orders self.now.precedences order.first order.second order.place k) (Decided order.first order.second order.place) }
+        ensures { SomeIff result ((k : ℕ) × Orders self.now.precedences order.first order.second order.place k) (Decided order) }
     {
         self.standing(order)?;
-        Some(Cause::Decided {
-            first: order.first,
-            second: order.second,
-            place: order.place,
-        })
+        Some(Cause::Decided { order })
     }
 
     // That the precedence does not stand, or only the other way round.
     fn not_standing(&self, order: Order) -> Option<Cause>
-        ensures fact { IfSome result (OrderCause self.now order.first order.second order.place) }
+        ensures fact { IfSome result (OrderCause self.now order) }
         ensures explains { IfSome result (λ cause. refusal_of cause ≡ NothingToStrike) }
     {
         if self.standing(order).is_some() {
             return None;
         }
-        let Order {
-            first,
-            second,
-            place,
-        } = order;
-        if self.standing(reversed(order)).is_some() {
-            return Some(Cause::OtherWayRound {
-                first: second,
-                second: first,
-                place,
-            });
+        let reversed = order.reversed();
+        if self.standing(reversed).is_some() {
+            return Some(Cause::OtherWayRound { order: reversed });
         }
-        Some(Cause::NoPrecedence {
-            first,
-            second,
-            place,
-        })
+        Some(Cause::NoPrecedence { order })
     }
 
     // The cause that the place is the goal of the first carrier or the start of the second, where it is.
     fn end_of_route(&self, order: Order) -> Option<Cause>
-        ensures fact { IfSome result (OrderCause self.now order.first order.second order.place) }
+        ensures fact { IfSome result (OrderCause self.now order) }
         ensures explains { IfSome result (λ cause. refusal_of cause ≡ FirstsGoalOrSecondsStart) }
     {
         let Order {
@@ -177,7 +162,7 @@ impl Records<'_> {
 
     // Why a precedence, or the striking of one, is refused.
     fn order_cause(&self, order: Order, why: EntryRefusal) -> Option<Cause>
-        ensures fact { IfSome result (OrderCause self.now order.first order.second order.place) }
+        ensures fact { IfSome result (OrderCause self.now order) }
         ensures explains { IfSome result (λ cause. refusal_of cause ≡ why) }
     {
         let Order {
@@ -196,7 +181,7 @@ impl Records<'_> {
             }
             EntryRefusal::FirstsGoalOrSecondsStart => self.end_of_route(order),
             EntryRefusal::AlreadyDecided => {
-                self.decided(order).or(self.decided(reversed(order)))
+                self.decided(order).or(self.decided(order.reversed()))
             }
             EntryRefusal::LimitReached if self.precedences.len() >= MOST_PRECEDENCES => {
                 Some(Cause::TooManyPrecedences)

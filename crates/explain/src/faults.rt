@@ -119,6 +119,7 @@ fn length_fault(line: &[u8]) -> Option<LineFault> {
         digits if digits % 2 == 1 => Some(LineFault::Odd { digits }),
         digits => {
             let kind = byte_at(line, 0..2)?;
+            // The digits of a line by its kind; `lines` has the lengths in patterns alone, which have no name.
             let wanted = match kind {
                 0x02 | 0x05 => 8,
                 0x06 => 14,

@@ -6,7 +6,7 @@ ghost use Rattle.explain.specs.Judged.{JudgeCauseOf};
 ghost use Rattle.judge.specs.declared.refusal.JudgeRefusal.TheVariants.{HeadOn, NoLane, NotAtGoal, Undecided};
 
 use crate::judge_cause::JudgeCause;
-use crate::records::{Records, reversed};
+use crate::records::Records;
 use crate::site::Site;
 use judge::refusal::JudgeRefusal;
 use sheet::records::{Order, Stop};
@@ -21,8 +21,8 @@ impl Records<'_> {
         Some(next.place)
     }
 
-    // Whether the carrier of stop `s`, which has this number, goes on to the place of stop `t`, and goes first at its own
-    // place.
+    // Whether the carrier of stop `s`, which has this number, goes on to the place of stop `t`, and goes first at its
+    // own place.
     fn opposes(&self, stop: u16, s: &Stop, t: &Stop) -> bool
         ensures { IsTrue result → GoesTo self.now.stops stop t.now.place × ((k : ℕ) × Orders self.now.precedences s.now.carrier t.now.carrier s.now.place k) }
     {
@@ -83,7 +83,7 @@ impl Site<'_> {
         };
         if s.place != t.place
             || records.standing(order).is_some()
-            || records.standing(reversed(order)).is_some()
+            || records.standing(order.reversed()).is_some()
         {
             return None;
         }

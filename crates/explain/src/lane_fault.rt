@@ -1,6 +1,7 @@
 // What is wrong with a lane of the yard's file.
-ghost use Rattle.std.specs.Prelude.{◌≡◌, IfSome};
+ghost use Rattle.std.specs.Prelude.{◌≡◌, IfSome, Option};
 ghost use Rattle.lane_yard.specs.Refusals.{number_of};
+ghost use Rattle.lane_yard.specs.declared.lane.Lane.{Lane};
 ghost use Rattle.explain.specs.LaneFaults.{FaultOf, fault_number};
 
 use lane_yard::lane::Lane;
@@ -41,8 +42,8 @@ impl fmt::Display for LaneFault {
 }
 
 // What is wrong with a lane outside the limits. The two places are asked for one by one, as one of them is named.
-fn limit_fault(lane: Lane, before: Option<Lane>) -> Option<LaneFault>
-    ensures fact { IfSome result (FaultOf lane before) }
+fn limit_fault(lane: Lane) -> Option<LaneFault>
+    ensures fact { (before : Option Lane) → IfSome result (FaultOf lane before) }
     ensures explains { IfSome result (λ fault. fault_number fault ≡ 18) }
 {
     let Lane { from, to, time } = lane;
@@ -65,7 +66,7 @@ pub(crate) fn lane_fault_of(lane: Lane, before: Option<Lane>, why: LayRefusal) -
     ensures explains { IfSome result (λ fault. fault_number fault ≡ number_of why) }
 {
     match why {
-        LayRefusal::BadLane { .. } => limit_fault(lane, before),
+        LayRefusal::BadLane { .. } => limit_fault(lane),
         LayRefusal::NotRising { .. } => Some(LaneFault::NotRising {
             lane,
             before: before?,

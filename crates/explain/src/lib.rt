@@ -1,4 +1,6 @@
 // Explaining a sheet in words: what each line says, what came of it, and why.
+// The writer `out` is passed to each function that writes, with the line where it shows one: a type for the two would
+// only be made to be taken apart.
 #![tactic(auto)]
 
 mod answers;

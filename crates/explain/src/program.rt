@@ -24,6 +24,7 @@ struct Explainer {
 impl Explainer {
     // Does what the line's entry says, and writes what it says and what came of it.
     fn explain_entry(&mut self, line: &[u8], entry: Entry, out: &mut impl Write) -> io::Result<()> {
+        // A line that reads as an entry is ASCII, so the text is never the empty one in its place.
         let digits = std::str::from_utf8(line).unwrap_or("");
         write!(out, "{digits:<10}  {}: ", Request(entry))?;
         let outcome = self.session.answer(line);

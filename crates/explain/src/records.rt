@@ -27,17 +27,6 @@ impl<'a> Model for Records<'a> {
     ghost view = { λ r. record { carriers = r.carriers.now; stops = r.stops.now; precedences = r.precedences.now } };
 }
 
-// The same two carriers at the place, the other way round.
-pub(crate) fn reversed(order: Order) -> Order
-    ensures { result ≡ record { first = order.second; second = order.first; place = order.place } }
-{
-    Order {
-        first: order.second,
-        second: order.first,
-        place: order.place,
-    }
-}
-
 impl<'a> Records<'a> {
     // Those of this sheet.
     pub(crate) fn of(sheet: &'a Sheet) -> Records<'a>
@@ -52,8 +41,8 @@ impl<'a> Records<'a> {
 }
 
 impl Records<'_> {
-    // The number of the carrier's stop at the place. Each look-up is the one search, by a key of its own. The carrier and
-    // the place are of two types, and causes name them one by one, so the key is made only here.
+    // The number of the carrier's stop at the place. Each look-up is the one search, by a key of its own. The carrier
+    // and the place are of two types, and causes name them one by one, so the key is made only here.
     pub(crate) fn stop_at(&self, carrier: u8, place: u16) -> Option<usize>
         ensures { MatchOption result ((k : ℕ) → ¬ Visits self.now.stops carrier place k) (Visits self.now.stops carrier place) }
     {

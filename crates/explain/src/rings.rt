@@ -1,4 +1,4 @@
-// A ring of waiting, stop by stop.
+// A ring of waiting, stop by stop. Two stops are `s` and `t`, as in sheet_lags.rt.
 use crate::sheet_lags::Judging;
 use crate::text::Counted;
 use std::io;
@@ -24,8 +24,8 @@ impl Judging<'_> {
         Ok(ticks)
     }
 
-    // Writes the stops of a ring with the lag from each to the next, and answers the sum of the lags. A loop, since each
-    // step writes, may fail, and adds to the sum.
+    // Writes the stops of a ring with the lag from each to the next, and answers the sum of the lags. A loop, since
+    // each step writes, may fail, and adds to the sum.
     fn write_lags(&self, ring: &[u16], out: &mut impl Write) -> io::Result<i64> {
         let mut sum: i64 = 0;
         let nexts = ring.iter().skip(1).chain(ring.iter().take(1));

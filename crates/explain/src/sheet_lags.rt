@@ -10,7 +10,8 @@ use keyed::find;
 use yard::rules::AnyRule;
 use yard::{FollowingRule, Yard};
 
-// A sheet in its yard, and the rule that it is judged under.
+// A sheet in its yard, and the rule that it is judged under. Two stops are `s` and `t` in each method, as in the
+// definition `LagBetween` that the clauses name: a type for the two would only be made to be taken apart.
 #[derive(Drop)]
 pub(crate) struct Judging<'a> {
     pub site: Site<'a>,
@@ -36,8 +37,8 @@ impl Judging<'_> {
         })
     }
 
-    // The lag of the precedence whose second carrier has the stop `t`, and whose first carrier has the stop `s` after the
-    // one at the same place.
+    // The lag of the precedence whose second carrier has the stop `t`, and whose first carrier has the stop `s` after
+    // the one at the same place.
     fn waiting_lag(&self, s: u16, t: u16) -> Option<Lag>
         ensures { IfSome result (LagBetween (lanes_of self.now.site.yard.now) self.now.rule self.now.site.records s t) }
     {

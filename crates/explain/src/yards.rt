@@ -121,6 +121,7 @@ pub(crate) fn write_refused_yard(
 
 // Writes how many lanes the yard has.
 pub(crate) fn write_yard(yard: &LaneYard, out: &mut impl Write) -> io::Result<()> {
+    // `as`: there is no `From<usize>` for `u64`.
     let number = yard.lanes().len() as u64;
     let noun = "lane";
     match number {

@@ -15,7 +15,8 @@ pub enum LineRefusal {
 }
 
 impl LineRefusal {
-    // The number of the refusal in a reply, as the format of the lines has it.
+    // The number of the refusal in a reply, as the format of the lines has it. A match: the cases carry what they tell,
+    // so they have no numbers of their own.
     pub fn number(&self) -> u8
         ensures { result ≡ number_of self.now }
     {
@@ -49,7 +50,7 @@ pub enum WriteRefusal {
 }
 
 impl WriteRefusal {
-    // The number of the refusal in a reply. It tells nothing else.
+    // The number of the refusal in a reply. It tells nothing else. A match, as two cases have one number.
     pub fn number(&self) -> u8
         ensures { result ≡ write_number_of self.now }
     {

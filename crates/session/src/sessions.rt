@@ -29,7 +29,8 @@ use sheet::sheets::Sheet;
 use std::alloc::{AllocError, Global};
 use yard::rules::AnyRule;
 
-// A yard and a sheet, with pages for judging that are long enough for every sheet.
+// A yard and a sheet, with pages for judging that are long enough for every sheet: arrays of fixed size, so that no
+// line needs memory.
 #[derive(Drop)]
 pub struct Session {
     yard: LaneYard,
@@ -98,7 +99,8 @@ impl Session {
 
     // Judges the sheet in the yard under the rule that a line names.
     // Here and below `same`, `stand` and `within` are clauses of their own: a caller asks for each alone.
-    // Not inlined: a judging has 100 kilobytes of tables on the stack, which a line that asks for none would make room for too.
+    // Not inlined: a judging has about 150 KiB of tables on the stack, which a line that asks for none would make room
+    // for too.
     #[inline(never)]
     fn judge_under(&mut self, rule: Rule) -> Result<Answer, Refusal>
         ensures ruled { Ruled (lanes_in self.old) (book_in self.old) (book_in self.new) (pages_over self.old self.new) rule result }
@@ -157,8 +159,8 @@ impl Session {
         self.take(entry)
     }
 
-    // The reply of an answer, with the session's pages. An answer of this session lists no more numbers than a page has; of
-    // any other the reply has all that are on the page.
+    // The reply of an answer, with the session's pages. An answer of this session lists no more numbers than a page
+    // has; of any other the reply has all that are on the page.
     pub fn reply_to(&self, answer: Result<Answer, Refusal>) -> Reply<'_>
         ensures { answer_of result ≡ said_in self.now answer }
     {
