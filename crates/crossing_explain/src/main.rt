@@ -1,4 +1,5 @@
-// yardexplain, run on the example of the crossing: a crate of its own, as the gate runs a program on the input beside it.
+// yardexplain, run on the example of the crossing: a crate of its own, as the gate runs a program on the input beside
+// it.
 #![tactic(auto)]
 
 use std::io;

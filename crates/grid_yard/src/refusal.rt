@@ -13,7 +13,8 @@ pub enum GridRefusal {
 }
 
 impl GridRefusal {
-    // The number of the refusal. It tells nothing else. A match over all cases, so that a new one must be given its number.
+    // The number of the refusal. It tells nothing else. A match over all cases, so that a new one must be given its
+    // number.
     pub fn number(&self) -> u8
         ensures { result ≡ number_of self.now }
     {

@@ -38,7 +38,8 @@ pub(crate) fn check_goals(carriers: &[Carrier]) -> Result<(), JudgeRefusal>
 
 // Finds the leg of each stop, of which there are as many as `legs` has room for; refuses the lowest stop that no lane
 // leads to from the one before it.
-// By `enumerate`: a stop's number is an index here too, so that counting by `(0u16..)` would only have it converted there.
+// By `enumerate`: a stop's number is an index here too, so that counting by `(0u16..)` would only have it converted
+// there.
 pub(crate) fn find_legs<Y: Yard>(
     yard: &Y,
     routes: Routes,

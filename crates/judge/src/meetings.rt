@@ -59,8 +59,8 @@ impl ByPlace<'_> {
         None
     }
 
-    // Goes along the links, and refuses the lowest stop that meets a later one without a precedence, with the lowest such
-    // later one. It goes by number, since both numbers are in the refusal.
+    // Goes along the links, and refuses the lowest stop that meets a later one without a precedence, with the lowest
+    // such later one. It goes by number, since both numbers are in the refusal.
     fn check_meetings(self, marks: &Marks) -> Result<(), JudgeRefusal>
         ensures { MatchResult result (λ _. (s t : ℕ) → ¬ OpenMeeting self.entry.routes.stops.now marks.now.first s t) (λ e. (s : ℕ) × (t : ℕ) × (e ≡ Undecided s t) × LowestPair (OpenMeeting self.entry.routes.stops.now marks.now.first) s t) }
     {
@@ -89,8 +89,8 @@ impl Routes<'_> {
             && !(marks.goes_first(s, stops[t].carrier) || marks.goes_first(t, stops[s].carrier))
     }
 
-    // Refuses the lowest stop that meets a later one without a precedence, with the lowest such later one. The links lie
-    // here and `ByPlace` borrows them.
+    // Refuses the lowest stop that meets a later one without a precedence, with the lowest such later one. The links
+    // lie here and `ByPlace` borrows them.
     pub(crate) fn check_meetings(self, marks: &Marks) -> Result<(), JudgeRefusal>
         ensures { MatchResult result (λ _. (s t : ℕ) → ¬ OpenMeeting self.entry.stops.now marks.now.first s t) (λ e. (s : ℕ) × (t : ℕ) × (e ≡ Undecided s t) × LowestPair (OpenMeeting self.entry.stops.now marks.now.first) s t) }
     {
@@ -126,8 +126,8 @@ impl Tables<'_> {
         }
     }
 
-    // The lowest pair of stops that are set head on. As a chain with `min` it was left unproved: what `filter_map` gives is
-    // known only of a function that states its result by an equation.
+    // The lowest pair of stops that are set head on. As a chain with `min` it was left unproved: what `filter_map`
+    // gives is known only of a function that states its result by an equation.
     fn lowest_head_on(self, marks: &Marks) -> Option<(usize, usize)>
         ensures { LowestOpposed self.entry.routes.stops.now self.entry.legs.now marks.now.first self.entry.routes.precedences.now (length self.entry.routes.precedences.now) result }
     {

@@ -9,8 +9,8 @@ pub trait Keyed<K> {
     // The record's key.
     ghost key: { Self → K };
 
-    // Whether this is the record's key. Each type compares for itself: that `==` of a type parameter means equality would
-    // be one more law to ask of the key.
+    // Whether this is the record's key. Each type compares for itself: that `==` of a type parameter means equality
+    // would be one more law to ask of the key.
     fn has_key(&self, wanted: &K) -> bool
         ensures { IsTrue result ↔ (key self.now ≡ wanted.now) };
 }

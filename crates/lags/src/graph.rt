@@ -111,8 +111,8 @@ impl<'a> Graph<'a> {
             (Earliest self.now.lags.now arrivals.new)
             (λ nodes. Cycle self.now.lags.now nodes.items) }
     {
-        // The number of the lag that raised each node last. No number stands for "none": a node that was never raised is
-        // never read, as is proved, and an Option would be a test that never fails.
+        // The number of the lag that raised each node last. No number stands for "none": a node that was never raised
+        // is never read, as is proved, and an Option would be a test that never fails.
         let mut parents = [0; MOST_NODES];
         for _ in 0..self.count_ends() {
             self.raise_round(arrivals, &mut parents)?;

@@ -10,7 +10,8 @@ pub(crate) const NO_LAG: Lag = Lag {
     weight: 0,
 };
 
-// Fills the list with a ring through nodes 0 up to its length, each `step` after the one before, with weights -3 to 3 and a last one that makes the sum.
+// Fills the list with a ring through nodes 0 up to its length, each `step` after the one before, with weights -3 to 3
+// and a last one that makes the sum.
 pub(crate) fn fill_ring(lags: &mut [Lag], step: usize, sum: i32)
     requires { length lags.old ≤ 1024 }
 {
@@ -27,7 +28,8 @@ pub(crate) fn fill_ring(lags: &mut [Lag], step: usize, sum: i32)
     }
 }
 
-// Fills the list with a chain through nodes 0 up to its length, the last lag first, each of weight 3, and then a lag back that makes the sum.
+// Fills the list with a chain through nodes 0 up to its length, the last lag first, each of weight 3, and then a lag
+// back that makes the sum.
 pub(crate) fn fill_chain(lags: &mut [Lag], sum: i32)
     requires { length lags.old ≤ 1024 }
 {

@@ -48,7 +48,8 @@ fn check_unfit<const N: usize, const ROOM: usize>(rt: &impl Abort, lags: &[Lag],
     assert!(rt; page == [9; ROOM], "{why}");
 }
 
-// A ring through N nodes, whose numbers go up by `step` round the ring: it passes with the sum 0, and with the sum 1 it is found.
+// A ring through N nodes, whose numbers go up by `step` round the ring: it passes with the sum 0, and with the sum 1 it
+// is found.
 fn check_ring_sums<const N: usize>(rt: &impl Abort, step: usize, nodes: &str) {
     assert!(rt; N <= 1024);
     let mut lags = [NO_LAG; N];

@@ -4,7 +4,8 @@ ghost use Rattle.lane_yard.specs.Refusals.{number_of, told_by};
 
 #[derive(Clone, Copy, PartialEq, Eq, Debug)]
 pub enum LayRefusal {
-    // The lane at the index has a place above 4,095, or leads to where it begins, or has a travel time outside 1 to 36,000.
+    // The lane at the index has a place above 4,095, or leads to where it begins, or has a travel time outside 1 to
+    // 36,000.
     BadLane { index: u16 },
     // The lane at the index does not come after the one before it.
     NotRising { index: u16 },

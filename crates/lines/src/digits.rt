@@ -10,7 +10,8 @@ use arrayvec::ArrayVec;
 // The most bytes that a line stands for.
 const MOST_BYTES: usize = MOST_DIGITS / 2;
 
-// The value of a digit, 0 to 9 or A to F; any other byte has none. Two comparisons are faster than a match on the ranges.
+// The value of a digit, 0 to 9 or A to F; any other byte has none. Two comparisons are faster than a match on the
+// ranges.
 pub fn digit_value(byte: u8) -> Option<u8>
     ensures { result ≡ value_of byte }
 {

@@ -6,8 +6,8 @@ ghost use Rattle.lines.specs.Pages.{written, placing};
 use crate::digits::encode;
 use crate::refusal::WriteRefusal;
 
-// Writes bytes as digits into the page from the position `at` on, and answers how many digits these are. Page and position
-// are two values of the caller's: a struct of both would be made for each call, and taken apart in it.
+// Writes bytes as digits into the page from the position `at` on, and answers how many digits these are. Page and
+// position are two values of the caller's: a struct of both would be made for each call, and taken apart in it.
 pub fn write_bytes(bytes: &[u8], page: &mut [u8], at: usize) -> Result<usize, WriteRefusal>
     ensures value { result ≡ placing page.old at (digits bytes.now) }
     ensures after { page.new ≡ (if is_ok result then written page.old at (digits bytes.now) else page.old) }

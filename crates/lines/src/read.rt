@@ -11,7 +11,8 @@ use crate::entry::{Entry, Input, Rule};
 use crate::refusal::LineRefusal;
 use yard::limits::LONGEST_GAP;
 
-// The rule of a rule byte and a gap. A function and no `TryFrom`: the two are fields of a line, and no type of their own.
+// The rule of a rule byte and a gap. A function and no `TryFrom`: the two are fields of a line, and no type of their
+// own.
 fn read_rule(rule: u8, gap: u16) -> Result<Rule, LineRefusal>
     ensures { result ≡ (if unruled rule gap then Err BadRule else Ok (rule_of rule gap)) }
 {

@@ -22,7 +22,8 @@ fn check_kept(rt: &impl Abort, buffer: &LineBuffer, kept: usize) {
     }
 }
 
-// One buffer for all, so that nothing of a longer line is seen in a shorter one after it. A line of 5,000 digits is then too long.
+// One buffer for all, so that nothing of a longer line is seen in a shorter one after it. A line of 5,000 digits is
+// then too long.
 #[test]
 fn a_buffer_keeps_65_bytes(rt: HostRuntime) {
     let mut buffer = LineBuffer::new();

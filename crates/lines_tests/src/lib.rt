@@ -1,4 +1,5 @@
-// Tests of lines and replies: limits, damage, the order of checks, positions and pages; the expected values are those of docs/LINES.md.
+// Tests of lines and replies: limits, damage, the order of checks, positions and pages; the expected values are those
+// of docs/LINES.md.
 #![tactic(auto)]
 
 #[cfg(test)]

@@ -97,7 +97,8 @@ fn check_length(
     check_written(rt, text, length, usize::MAX, Err(refusal), b"")
 }
 
-// At each position of pages of each length: that the digits are written where there are bytes enough for them, and that elsewhere, and everywhere if there are no digits, the text is refused so.
+// At each position of pages of each length: that the digits are written where there are bytes enough for them, and that
+// elsewhere, and everywhere if there are no digits, the text is refused so.
 fn check_lengths(
     rt: &impl Abort,
     text: &impl Text,

@@ -193,7 +193,8 @@ fn replies_are_written_at_every_position(rt: HostRuntime) -> Result<(), Fail> {
     Ok(())
 }
 
-// That the text fills the page with these six digits and then these eight over and over, and does not fit one byte further on.
+// That the text fills the page with these six digits and then these eight over and over, and does not fit one byte
+// further on.
 fn check_long(rt: &impl Abort, text: &impl Text, page: &mut [u8], head: &[u8; 6], each: &[u8; 8]) {
     let size = page.len();
     assert_eq!(rt; text.write(page, 1), Err(WriteRefusal::PageTooShort));

@@ -1,9 +1,10 @@
 // The answers of a run.
 use sheet::refusal::EntryRefusal;
 
-// Why a sheet does not pass. It shares five cases with `JudgeRefusal` and stays beside it: no page can be too short here,
-// and a ring is told whole. One enum with the ring's form as a parameter would have a case that cannot come here, or
-// judging would have to answer a refusal within a refusal, which each match and clause above would have to take apart.
+// Why a sheet does not pass. It shares five cases with `JudgeRefusal` and stays beside it: no page can be too short
+// here, and a ring is told whole. One enum with the ring's form as a parameter would have a case that cannot come here,
+// or judging would have to answer a refusal within a refusal, which each match and clause above would have to take
+// apart.
 #[derive(Drop, PartialEq, Eq, Debug)]
 pub enum SheetRefusal {
     // The route of the carrier has not reached its goal.

@@ -46,7 +46,8 @@ fn make_call<Y: Yard, R: FollowingRule>(
     }
 }
 
-// Plays the calls on a new sheet, one after another, and answers each. The calls with their answers are a lawful history.
+// Plays the calls on a new sheet, one after another, and answers each. The calls with their answers are a lawful
+// history.
 pub fn play<Y: Yard, R: FollowingRule>(
     heap: Global,
     calls: &[Call<Y, R>],

@@ -14,8 +14,8 @@ use std::process::Abort;
 use std::test::Fail;
 use yard::rules::FixedGap;
 
-// A lane yard with these lanes, each as from, to and travel time, as a yard of either kind. The tests of judging have the
-// like; a crate for this one function would be no plainer.
+// A lane yard with these lanes, each as from, to and travel time, as a yard of either kind. The tests of judging have
+// the like; a crate for this one function would be no plainer.
 fn yard_of(rt: &impl Abort, heap: Global, lanes: &[(u16, u16, u16)]) -> Result<AnyYard, Fail> {
     let mut yard = LaneYard::new(heap)?;
     let mut list = Vec::new(heap);

@@ -64,8 +64,8 @@ impl Listed<4> for u32 {
     }
 }
 
-// Writes numbers as digits to the front of `part`, leaves the rest of it, and answers how many digits these are. By a loop
-// that adds them up: each step writes, and may find no room.
+// Writes numbers as digits to the front of `part`, leaves the rest of it, and answers how many digits these are. By a
+// loop that adds them up: each step writes, and may find no room.
 fn write_numbers<N: Listed<SIZE>, const SIZE: usize>(
     numbers: &[N],
     part: &mut [u8],
@@ -82,8 +82,8 @@ fn write_numbers<N: Listed<SIZE>, const SIZE: usize>(
     Ok(at)
 }
 
-// Writes a first byte, the count of the numbers and the numbers into the page from the position `at` on. The byte stays a
-// number: `Reply` is the enum, and its arms are the table of the format.
+// Writes a first byte, the count of the numbers and the numbers into the page from the position `at` on. The byte stays
+// a number: `Reply` is the enum, and its arms are the table of the format.
 pub(crate) fn write_list<N: Listed<SIZE>, const SIZE: usize>(
     code: u8,
     numbers: &[N],

@@ -104,7 +104,8 @@ pub struct Sheet {
 impl Sheet {
     ghost use Rattle.sheet.specs.Sheets.{carriers_of, stops_of, precedences_of, sheet_book};
 
-    // Opens an empty sheet. Whatever calls then follow, they alone decide the answers and the book, and the book is sound.
+    // Opens an empty sheet. Whatever calls then follow, they alone decide the answers and the book, and the book is
+    // sound.
     #[tactic(auto, using(crate::proofs::Soundness::ever_sound, crate::proofs::Determined::calls_decide))]
     pub fn open(heap: Global) -> Result<Sheet, AllocError>
         ensures opens { IfOk result (λ s. sheet_book s ≡ opened) }

@@ -1,5 +1,5 @@
-// The three following rules, and any of them as one type. Each impl proves its two laws in a line of its own: they differ
-// in constant and meaning.
+// The three following rules, and any of them as one type. Each impl proves its two laws in a line of its own: they
+// differ in constant and meaning.
 ghost use Rattle.std.specs.Prelude.{◌≡◌, ◌-◌, ◌<◌, ◌≤◌, MatchResult};
 ghost use Rattle.std.proofs.Common.{rules};
 
@@ -117,8 +117,8 @@ impl FollowingRule for FixedGap {
     }
 }
 
-// A following rule by its kind, with the gap of a fixed one as a number that may be too long, `Rule<u16>`, or as one that
-// is within the limit, `Rule<FixedGap>`.
+// A following rule by its kind, with the gap of a fixed one as a number that may be too long, `Rule<u16>`, or as one
+// that is within the limit, `Rule<FixedGap>`.
 #[derive(Clone, Copy, PartialEq, Eq, Debug)]
 pub enum Rule<G> {
     FullLane,

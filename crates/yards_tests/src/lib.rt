@@ -229,8 +229,8 @@ mod tests {
         Ok(())
     }
 
-    // Cells 0, 63, 64 and 4,095 of the largest grid are closed: the ends of the first row, the cell below the first, and
-    // the last one.
+    // Cells 0, 63, 64 and 4,095 of the largest grid are closed: the ends of the first row, the cell below the first,
+    // and the last one.
     #[test]
     fn closed_cells(rt: HostRuntime) -> Result<(), Fail> {
         let mut words = [0; 64];
