@@ -58,7 +58,8 @@ fn settle<R: FollowingRule>(
 fn check_precedences(tables: Tables) -> Result<(), JudgeRefusal>
     ensures { MatchResult result (λ _. PrecedencesClear tables.entry.routes.stops.now tables.entry.legs.now tables.entry.routes.precedences.now) (λ e. PrecedencesRefused tables.entry.routes.stops.now tables.entry.legs.now tables.entry.routes.precedences.now e) }
 {
-    let marks = Marks::of(tables.routes);
+    let mut marks = Marks::none();
+    marks.mark(tables.routes);
     tables.routes.check_meetings(&marks)?;
     tables.check_head_on(&marks)
 }

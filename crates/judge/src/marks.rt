@@ -1,5 +1,5 @@
 // Who goes first at each stop. The marks are in an array, since judging takes no memory (a rule of the project).
-ghost use Rattle.std.specs.Prelude.{◌≡◌, ◌<◌, length};
+ghost use Rattle.std.specs.Prelude.{◌≡◌, ◌<◌, false, length, replicate};
 ghost use Rattle.judge.specs.Meetings.{Leads, leads_at};
 
 use crate::routes::Routes;
@@ -15,19 +15,26 @@ pub(crate) struct Marks {
 }
 
 impl Marks {
-    // The marks of the routes' precedences.
+    // No mark.
     #[inline]
-    pub(crate) fn of(routes: Routes) -> Marks
-        ensures { Leads routes.entry.precedences.now (length routes.entry.precedences.now) result.first }
+    pub(crate) fn none() -> Marks
+        ensures { result.first ≡ replicate 65536 false }
     {
-        let mut marks = Marks {
+        Marks {
             first: [false; MARKS],
-        };
+        }
+    }
+
+    // Makes the marks of the routes' precedences, where there is none. Tried as `Marks::of(routes)`: it was proved, but the
+    // 64 KiB were then copied twice in each judging.
+    pub(crate) fn mark(&mut self, routes: Routes)
+        requires { self.old.first ≡ replicate 65536 false }
+        ensures { Leads routes.entry.precedences.now (length routes.entry.precedences.now) self.new.first }
+    {
         for precedence in routes.precedences {
             let row = usize::from(precedence.first_stop) * MOST_CARRIERS;
-            marks.first[row + usize::from(precedence.second)] = true;
+            self.first[row + usize::from(precedence.second)] = true;
         }
-        marks
     }
 
     // Whether the stop's carrier goes first there, before the carrier `other`.
