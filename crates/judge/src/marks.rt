@@ -25,8 +25,8 @@ impl Marks {
         }
     }
 
-    // Makes the marks of the routes' precedences, where there is none. Tried as `Marks::of(routes)`: it was proved, but the
-    // 64 KiB were then copied twice in each judging.
+    // Makes the marks of the routes' precedences, where there is none. Tried as `Marks::of(routes)`: it was proved, but
+    // the 64 KiB were then copied twice in each judging.
     pub(crate) fn mark(&mut self, routes: Routes)
         requires { self.old.first ≡ replicate 65536 false }
         ensures { Leads routes.entry.precedences.now (length routes.entry.precedences.now) self.new.first }
