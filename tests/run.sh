@@ -22,5 +22,5 @@ for folder in tests/data/*/; do
     (cd "$folder" && "$program" < stdin | cmp - stdout)
     echo "stored history $folder: as expected"
 done
-tests/compare.sh "$program" 600
+tests/compare.sh "$program" 2000
 tail -n 1 "$log"
