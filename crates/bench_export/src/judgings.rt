@@ -34,7 +34,8 @@ fn rule_of(number: u16, gap: u16) -> Rule<u16> {
 }
 
 impl Run<'_> {
-    // The sheet with all entries, entered so many times and at least once. The loops count, as they repeat one call.
+    // The sheet with all entries, entered so many times and at least once. The loop counts, here and in `judge_often`,
+    // as it repeats one call.
     fn sheet(&self, heap: Global) -> Result<Sheet, Fault> {
         let (entries, _) = self.entries.as_chunks::<4>();
         for _ in 1..self.sheets {

@@ -1,4 +1,4 @@
-// Finding the lag between two stops.
+// Finding the lag between two stops. Each function finds such a lag or none, and its contract says so in one clause.
 ghost use Rattle.std.specs.Prelude.{IfSome};
 ghost use Rattle.lane_yard.specs.Meaning.{lanes_of};
 ghost use Rattle.explain.specs.Lags.{LagBetween};

@@ -1,5 +1,5 @@
 // Arrivals by the longest ways between all pairs of nodes: a second way of working them out, for few nodes.
-// Loops over numbers make or try cases by number: there are no elements to go over.
+// Nodes are gone through by number: the number is an index in each row.
 use lags::Lag;
 
 pub(crate) const NODES: usize = 6;

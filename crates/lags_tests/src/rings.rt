@@ -1,5 +1,5 @@
 // Rings and chains as the tests make and judge them.
-// Loops over numbers make or try cases by number: there are no elements to go over.
+// Loops by `enumerate`: what an item becomes depends on its number.
 ghost use Rattle.std.specs.Prelude.{◌≤◌, length};
 
 use lags::Lag;

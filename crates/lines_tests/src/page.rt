@@ -1,5 +1,6 @@
 // What is written into a page, held against what should stand there.
-// Loops over numbers make or try cases by number: there are no elements to go over.
+// Loops over numbers try cases by number. Bytes of a page are gone through by `enumerate`, as their marks are made of
+// their positions.
 use lines::entry::Entry;
 use lines::page::write_bytes;
 use lines::refusal::WriteRefusal;

@@ -28,7 +28,7 @@ pub enum Refusal {
 }
 
 impl Refusal {
-    // The number of the refusal. A match: the cases carry what they tell, so they have no numbers of their own.
+    // The number of the refusal: that of the refusal within.
     pub fn number(&self) -> u8
         ensures { result ≡ number_of self.now }
     {
