@@ -1,52 +1,55 @@
--- What the cause of a refused judging says: a fact of the sheet and the yard, about what the refusal tells.
+-- Why a sheet does not pass: the cause names what the refusal only tells by a number or two.
 use Rattle.std.specs.Prelude.{◌≡◌, ◌≢◌, ℕ, ◌<◌, List, length, Some, None, Option, slice_index_or}
 use Rattle.sheet.specs.declared.records.Carrier.{Carrier}
+use Rattle.sheet.specs.declared.records.Order.{Order}
 use Rattle.sheet.specs.declared.records.Stop.{Stop}
-use Rattle.sheet.specs.declared.records.Precedence.{Precedence}
 use Rattle.sheet.specs.Records.{no_carrier, no_stop}
 use Rattle.judge.specs.declared.refusal.JudgeRefusal.{JudgeRefusal}
 use Rattle.judge.specs.declared.refusal.JudgeRefusal.TheVariants as refusal
-use Rattle.explain.specs.Facts.{GoesTo, Orders, Visits}
+use Rattle.explain.specs.Facts.{GoesTo, Stands, reversed}
 use Rattle.explain.specs.Lists.{Lists}
 use Rattle.explain.specs.declared.judge_cause.JudgeCause.{JudgeCause}
-use Rattle.explain.specs.declared.judge_cause.JudgeCause.TheVariants.{NotAtGoal, NoLane, Undecided, HeadOn, Ring}
+use Rattle.explain.specs.declared.judge_cause.JudgeCause.TheVariants as cause
 
--- the carrier's latest stop is at the place, which is not its goal
-pub record ShortOfGoal (carriers : List Carrier) (carrier stop place goal : ℕ) : Type 0 where
-  pub within : carrier < length carriers
-  pub latest : (slice_index_or carriers carrier no_carrier).last_stop ≡ stop
-  pub stands : (slice_index_or carriers carrier no_carrier).last_place ≡ place
-  pub wanted : (slice_index_or carriers carrier no_carrier).goal ≡ goal
-  pub short : place ≢ goal
+-- the carrier and the stop of this number
+abbrev carrier_at : Lists → ℕ → Carrier
+carrier_at lists c = slice_index_or lists.carriers c no_carrier
 
--- the carrier's stop before this one is at the one place and this one at the other, and there is no lane between
-pub record Undriven (lanes : ℕ → ℕ → Option ℕ) (stops : List Stop) (carrier stop from to : ℕ) : Type 0 where
-  pub visits : Visits stops carrier to stop
-  pub p : ℕ
-  pub previous : (slice_index_or stops stop no_stop).previous ≡ Some p
-  pub leaves : (slice_index_or stops p no_stop).place ≡ from
-  pub none : lanes from to ≡ None
+abbrev pub stop_at : Lists → ℕ → Stop
+stop_at lists s = slice_index_or lists.stops s no_stop
 
--- the two carriers have these stops at the place, and no precedence there
-pub record Unordered (stops : List Stop) (precedences : List Precedence) (carrier stop other later place : ℕ) : Type 0 where
-  pub visits : Visits stops carrier place stop
-  pub other_visits : Visits stops other place later
-  pub not_first : (k : ℕ) → ¬ Orders precedences carrier other place k
-  pub not_second : (k : ℕ) → ¬ Orders precedences other carrier place k
+-- there are stops of these two numbers
+abbrev pub Both : Lists → ℕ → ℕ → Type 0
+Both lists s t = (s < length lists.stops) × (t < length lists.stops)
 
--- each of the two carriers goes from its place to the other's, and goes first at its own
-pub record Opposed (stops : List Stop) (precedences : List Precedence) (carrier stop place other stop' place' : ℕ) : Type 0 where
-  pub visits : Visits stops carrier place stop
-  pub other_visits : Visits stops other place' stop'
-  pub goes : GoesTo stops stop place'
-  pub other_goes : GoesTo stops stop' place
-  pub first : (k : ℕ) × Orders precedences carrier other place k
-  pub other_first : (k : ℕ) × Orders precedences other carrier place' k
+-- the carrier of stop s goes first at the place of stop s, before that of stop t
+abbrev pub order_of : Lists → ℕ → ℕ → Order
+order_of lists s t = record { first = (stop_at lists s).carrier; second = (stop_at lists t).carrier; place = (stop_at lists s).place }
 
-module _ (lanes : ℕ → ℕ → Option ℕ) (lists : Lists) (why : JudgeRefusal) where
-  abbrev pub JudgeCauseOf : JudgeCause → Type 0
-  JudgeCauseOf (NotAtGoal carrier stop place goal) = (why ≡ refusal.NotAtGoal carrier) × ShortOfGoal lists.carriers carrier stop place goal
-  JudgeCauseOf (NoLane carrier stop from to) = (why ≡ refusal.NoLane stop) × Undriven lanes lists.stops carrier stop from to
-  JudgeCauseOf (Undecided carrier stop other later place) = (why ≡ refusal.Undecided stop later) × Unordered lists.stops lists.precedences carrier stop other later place
-  JudgeCauseOf (HeadOn carrier stop place other stop' place') = (why ≡ refusal.HeadOn stop stop') × Opposed lists.stops lists.precedences carrier stop place other stop' place'
-  JudgeCauseOf (Ring length) = why ≡ refusal.Ring length
+-- after stop s its carrier goes to the place of stop t, and it goes first at its own place
+abbrev pub Opposes : Lists → ℕ → ℕ → Type 0
+Opposes lists s t = GoesTo lists.stops s (stop_at lists t).place × Stands lists.precedences (order_of lists s t)
+
+-- the cause that carrier c stands short of its goal; that no lane leads from stop p to stop s; that the carriers of stops
+-- s and t meet at the place undecided; that they are set head on
+abbrev short_of_goal : Lists → ℕ → JudgeCause
+short_of_goal lists c = cause.NotAtGoal c (carrier_at lists c).last_stop (carrier_at lists c).last_place (carrier_at lists c).goal
+
+abbrev undriven : Lists → ℕ → ℕ → JudgeCause
+undriven lists p s = cause.NoLane (stop_at lists s).carrier s (stop_at lists p).place (stop_at lists s).place
+
+abbrev unordered : Lists → ℕ → ℕ → JudgeCause
+unordered lists s t = cause.Undecided (stop_at lists s).carrier s (stop_at lists t).carrier t (stop_at lists s).place
+
+abbrev opposed : Lists → ℕ → ℕ → JudgeCause
+opposed lists s t = cause.HeadOn (stop_at lists s).carrier s (stop_at lists s).place (stop_at lists t).carrier t (stop_at lists t).place
+
+module _ (lanes : ℕ → ℕ → Option ℕ) (lists : Lists) where
+  -- why a sheet does not pass so
+  abbrev pub JudgeCauseOf : JudgeRefusal → JudgeCause → Type 0
+  JudgeCauseOf (refusal.NotAtGoal c) why = (why ≡ short_of_goal lists c) × (c < length lists.carriers) × ((carrier_at lists c).last_place ≢ (carrier_at lists c).goal)
+  JudgeCauseOf (refusal.NoLane s) why = (p : ℕ) × (why ≡ undriven lists p s) × Both lists p s × ((stop_at lists s).previous ≡ Some p) × (lanes (stop_at lists p).place (stop_at lists s).place ≡ None)
+  JudgeCauseOf (refusal.Undecided s t) why = (why ≡ unordered lists s t) × Both lists s t × ((stop_at lists s).place ≡ (stop_at lists t).place) × (¬ Stands lists.precedences (order_of lists s t)) × ¬ Stands lists.precedences (reversed (order_of lists s t))
+  JudgeCauseOf (refusal.HeadOn s t) why = (why ≡ opposed lists s t) × Both lists s t × Opposes lists s t × Opposes lists t s
+  JudgeCauseOf (refusal.Ring stops) why = why ≡ cause.Ring stops
+  JudgeCauseOf refusal.PageTooShort why = ⊥

@@ -1,19 +1,20 @@
--- What the fault of a lane says of it and of the lane before it.
+-- What is wrong with a lane that is refused, given the lane before it.
 use Rattle.std.specs.Prelude.{◌≡◌, ℕ, ◌<◌, ◌⊎◌, Some, Option}
 use Rattle.lane_yard.specs.declared.lane.Lane.{Lane}
+use Rattle.lane_yard.specs.declared.refusal.LayRefusal.{LayRefusal}
+use Rattle.lane_yard.specs.declared.refusal.LayRefusal.TheVariants as refusal
 use Rattle.explain.specs.declared.lane_fault.LaneFault.{LaneFault}
-use Rattle.explain.specs.declared.lane_fault.LaneFault.TheVariants.{PlaceTooHigh, NoWay, BadTime, NotRising}
+use Rattle.explain.specs.declared.lane_fault.LaneFault.TheVariants as fault
 
--- the number of the refusal that a fault explains
--- the refusal itself also tells an index, which the fault does not know
-abbrev pub fault_number : LaneFault → ℕ
-fault_number (PlaceTooHigh place) = 18
-fault_number (NoWay place) = 18
-fault_number (BadTime time) = 18
-fault_number (NotRising lane before) = 19
+-- the lane by itself is outside the limits
+abbrev pub OutsideLimits : Lane → LaneFault → Type 0
+OutsideLimits lane why =
+    ((why ≡ fault.PlaceTooHigh lane.from) × (4095 < lane.from))
+    ⊎ ((why ≡ fault.PlaceTooHigh lane.to) × (4095 < lane.to))
+    ⊎ ((why ≡ fault.NoWay lane.from) × (lane.from ≡ lane.to))
+    ⊎ ((why ≡ fault.BadTime lane.time) × ((lane.time ≡ 0) ⊎ (36000 < lane.time)))
 
-abbrev pub FaultOf : Lane → Option Lane → LaneFault → Type 0
-FaultOf lane before (PlaceTooHigh place) = ((place ≡ lane.from) ⊎ (place ≡ lane.to)) × (4095 < place)
-FaultOf lane before (NoWay place) = (place ≡ lane.from) × (place ≡ lane.to)
-FaultOf lane before (BadTime time) = (time ≡ lane.time) × ((time ≡ 0) ⊎ (36000 < time))
-FaultOf lane before (NotRising this previous) = (this ≡ lane) × (before ≡ Some previous)
+abbrev pub FaultOf : Lane → Option Lane → LayRefusal → LaneFault → Type 0
+FaultOf lane before (refusal.BadLane index) why = OutsideLimits lane why
+FaultOf lane before (refusal.NotRising index) why = (previous : Lane) × (before ≡ Some previous) × (why ≡ fault.NotRising lane previous)
+FaultOf lane before refusal.TooManyLanes why = ⊥

@@ -6,3 +6,4 @@ pub mod LaneFaults
 pub mod Lags
 pub mod Lists
 pub mod Ticks
+pub mod Refused

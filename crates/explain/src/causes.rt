@@ -1,10 +1,10 @@
-// Finding why the sheet refuses an entry. `OrderCause` stands in three contracts, each beside the refusal that the
-// cause explains, which is another one in each: a definition of both would take as many words.
-ghost use Rattle.std.specs.Prelude.{◌≡◌, ℕ, ◌<◌, ◌≤◌, length, IfSome};
+// Finding why the sheet refuses an entry: each function finds a cause of the refusal, and none only where there is none.
+ghost use Rattle.std.specs.Prelude.{ℕ, ◌<◌, ◌≤◌, length, IsSome};
 ghost use Rattle.std.specs.Option.{SomeIff};
 ghost use Rattle.sheet.specs.declared.refusal.EntryRefusal.TheVariants.{EndTaken, FirstsGoalOrSecondsStart, NothingToStrike};
-ghost use Rattle.explain.specs.Causes.{CarrierCause, CauseOf, OrderCause, StopCause, refusal_of};
-ghost use Rattle.explain.specs.Facts.{AtGoal, Orders, Visits};
+ghost use Rattle.explain.specs.Causes.{CarrierCause, CauseOf, OrderCause, StopCause};
+ghost use Rattle.explain.specs.Facts.{AtGoal, Finds, Stands, Visits};
+ghost use Rattle.explain.specs.Refused.{RefusedAs};
 ghost use Rattle.explain.specs.declared.cause.Cause.TheVariants.{Decided, NoCarrier, NotOnRoute, PlaceTooHigh};
 
 use crate::cause::Cause;
@@ -26,8 +26,7 @@ fn too_high(place: u16) -> Option<Cause>
 impl Records<'_> {
     // Which end of a new carrier is taken, and by whom. By `map` and `or`, the proof of what it returns stays open.
     fn end_taken(&self, start: u16, goal: u16) -> Option<Cause>
-        ensures fact { IfSome result (CarrierCause self.now start goal) }
-        ensures explains { IfSome result (λ cause. refusal_of cause ≡ EndTaken) }
+        ensures { Finds (CarrierCause self.now start goal EndTaken) result }
     {
         if let Some(carrier) = find(self.carriers, &Start(start)) {
             return Some(Cause::StartTaken {
@@ -44,8 +43,7 @@ impl Records<'_> {
 
     // Why a carrier is refused.
     fn carrier_cause(&self, start: u16, goal: u16, why: EntryRefusal) -> Option<Cause>
-        ensures fact { IfSome result (CarrierCause self.now start goal) }
-        ensures explains { IfSome result (λ cause. refusal_of cause ≡ why) }
+        ensures { Finds (CarrierCause self.now start goal why) result }
     {
         match why {
             EntryRefusal::PlaceTooHigh => too_high(start).or(too_high(goal)),
@@ -62,16 +60,16 @@ impl Records<'_> {
 
     // The goal of a carrier whose route has reached it.
     fn goal_reached(&self, carrier: u8) -> Option<u16>
-        ensures { IfSome result (AtGoal self.now.carriers carrier) }
+        ensures { Finds (AtGoal self.now.carriers self.now.stops carrier) result }
     {
-        let record = self.carriers.get(usize::from(carrier))?;
-        record.is_at_goal().then_some(record.goal)
+        let goal = self.carriers.get(usize::from(carrier))?.goal;
+        self.stop_at(carrier, goal)?;
+        Some(goal)
     }
 
     // Why a stop is refused.
     fn stop_cause(&self, carrier: u8, place: u16, why: EntryRefusal) -> Option<Cause>
-        ensures fact { IfSome result (StopCause self.now carrier place) }
-        ensures explains { IfSome result (λ cause. refusal_of cause ≡ why) }
+        ensures { Finds (StopCause self.now carrier place why) result }
     {
         match why {
             EntryRefusal::NoCarrier => self.absent(carrier),
@@ -114,7 +112,7 @@ impl Records<'_> {
 
     // The cause that the precedence stands, where it does.
     fn decided(&self, order: Order) -> Option<Cause>
-        ensures { SomeIff result ((k : ℕ) × Orders self.now.precedences order.first order.second order.place k) (Decided order) }
+        ensures { SomeIff result (Stands self.now.precedences order) (Decided order) }
     {
         self.standing(order)?;
         Some(Cause::Decided { order })
@@ -122,8 +120,7 @@ impl Records<'_> {
 
     // That the precedence does not stand, or only the other way round.
     fn not_standing(&self, order: Order) -> Option<Cause>
-        ensures fact { IfSome result (OrderCause self.now order) }
-        ensures explains { IfSome result (λ cause. refusal_of cause ≡ NothingToStrike) }
+        ensures { Finds (OrderCause self.now order NothingToStrike) result }
     {
         if self.standing(order).is_some() {
             return None;
@@ -137,21 +134,22 @@ impl Records<'_> {
 
     // The cause that the place is the goal of the first carrier or the start of the second, where it is.
     fn end_of_route(&self, order: Order) -> Option<Cause>
-        ensures fact { IfSome result (OrderCause self.now order) }
-        ensures explains { IfSome result (λ cause. refusal_of cause ≡ FirstsGoalOrSecondsStart) }
+        ensures { Finds (OrderCause self.now order FirstsGoalOrSecondsStart) result }
     {
         let Order {
             first,
             second,
             place,
         } = order;
-        if self.carriers.get(usize::from(first))?.goal == place {
+        let carrier = self.carriers.get(usize::from(first));
+        if carrier.is_some_and(|record| record.goal == place) {
             return Some(Cause::FirstsGoal {
                 carrier: first,
                 place,
             });
         }
-        if self.carriers.get(usize::from(second))?.start == place {
+        let carrier = self.carriers.get(usize::from(second));
+        if carrier.is_some_and(|record| record.start == place) {
             return Some(Cause::SecondsStart {
                 carrier: second,
                 place,
@@ -162,8 +160,7 @@ impl Records<'_> {
 
     // Why a precedence, or the striking of one, is refused.
     fn order_cause(&self, order: Order, why: EntryRefusal) -> Option<Cause>
-        ensures fact { IfSome result (OrderCause self.now order) }
-        ensures explains { IfSome result (λ cause. refusal_of cause ≡ why) }
+        ensures { Finds (OrderCause self.now order why) result }
     {
         let Order {
             first,
@@ -191,10 +188,11 @@ impl Records<'_> {
         }
     }
 
-    // Why an entry is refused. The kinds carry different data, so each arm asks for itself.
+    // Why an entry is refused: there is a cause for each refusal of the sheet. The kinds carry different data, so each arm
+    // asks for itself.
     pub(crate) fn cause_of(&self, entry: Entry, why: EntryRefusal) -> Option<Cause>
-        ensures fact { IfSome result (CauseOf self.now entry) }
-        ensures explains { IfSome result (λ cause. refusal_of cause ≡ why) }
+        ensures finds { Finds (CauseOf self.now entry why) result }
+        ensures named { RefusedAs self.now entry why → IsSome result }
     {
         match entry {
             Entry::Carrier { start, goal } => self.carrier_cause(start, goal, why),

@@ -1,7 +1,7 @@
 // Finding why a sheet does not pass.
-ghost use Rattle.std.specs.Prelude.{◌≡◌, ℕ, IfSome, IsTrue};
+ghost use Rattle.std.specs.Prelude.{◌↔◌, IsTrue};
 ghost use Rattle.lane_yard.specs.Meaning.{lanes_of};
-ghost use Rattle.explain.specs.Facts.{GoesTo, Orders};
+ghost use Rattle.explain.specs.Facts.{Finds, GoesTo, Stands};
 ghost use Rattle.explain.specs.Judged.{JudgeCauseOf};
 ghost use Rattle.judge.specs.declared.refusal.JudgeRefusal.TheVariants.{HeadOn, NoLane, NotAtGoal, Undecided};
 
@@ -13,32 +13,24 @@ use sheet::records::{Order, Stop};
 use yard::Yard;
 
 impl Records<'_> {
-    // The place of the stop after this one on its route.
-    fn place_after(&self, stop: u16) -> Option<u16>
-        ensures { IfSome result (GoesTo self.now.stops stop) }
-    {
-        let next = self.stops.get(self.stop_after(stop)?)?;
-        Some(next.place)
-    }
-
     // Whether the carrier of stop `s`, which has this number, goes on to the place of stop `t`, and goes first at its
     // own place.
     fn opposes(&self, stop: u16, s: &Stop, t: &Stop) -> bool
-        ensures { IsTrue result → GoesTo self.now.stops stop t.now.place × ((k : ℕ) × Orders self.now.precedences s.now.carrier t.now.carrier s.now.place k) }
+        ensures { IsTrue result ↔ GoesTo self.now.stops stop t.now.place × Stands self.now.precedences (record { first = s.now.carrier; second = t.now.carrier; place = s.now.place }) }
     {
         let order = Order {
             first: s.carrier,
             second: t.carrier,
             place: s.place,
         };
-        self.place_after(stop) == Some(t.place) && self.standing(order).is_some()
+        self.step_to(stop, t.place).is_some() && self.standing(order).is_some()
     }
 }
 
 impl Site<'_> {
     // That the carrier's route ends short of its goal.
     fn not_at_goal(&self, carrier: u16) -> Option<JudgeCause>
-        ensures { IfSome result (JudgeCauseOf (lanes_of self.now.yard.now) self.now.records (NotAtGoal carrier)) }
+        ensures { Finds (JudgeCauseOf (lanes_of self.now.yard.now) self.now.records (NotAtGoal carrier)) result }
     {
         let record = self.records.carriers.get(usize::from(carrier))?;
         if record.is_at_goal() {
@@ -54,7 +46,7 @@ impl Site<'_> {
 
     // That no lane leads to the stop from the one before it.
     fn no_lane(&self, stop: u16) -> Option<JudgeCause>
-        ensures { IfSome result (JudgeCauseOf (lanes_of self.now.yard.now) self.now.records (NoLane stop)) }
+        ensures { Finds (JudgeCauseOf (lanes_of self.now.yard.now) self.now.records (NoLane stop)) result }
     {
         let to = self.records.stops.get(usize::from(stop))?;
         let from = self.records.stops.get(usize::from(to.previous?))?;
@@ -71,7 +63,7 @@ impl Site<'_> {
 
     // That two carriers meet at the place of their stops, and have no precedence there.
     fn undecided(&self, stop: u16, later: u16) -> Option<JudgeCause>
-        ensures { IfSome result (JudgeCauseOf (lanes_of self.now.yard.now) self.now.records (Undecided stop later)) }
+        ensures { Finds (JudgeCauseOf (lanes_of self.now.yard.now) self.now.records (Undecided stop later)) result }
     {
         let records = &self.records;
         let s = records.stops.get(usize::from(stop))?;
@@ -98,7 +90,7 @@ impl Site<'_> {
 
     // That the carriers of the two stops are set head on.
     fn head_on(&self, stop: u16, other: u16) -> Option<JudgeCause>
-        ensures { IfSome result (JudgeCauseOf (lanes_of self.now.yard.now) self.now.records (HeadOn stop other)) }
+        ensures { Finds (JudgeCauseOf (lanes_of self.now.yard.now) self.now.records (HeadOn stop other)) result }
     {
         let records = &self.records;
         let s = records.stops.get(usize::from(stop))?;
@@ -118,7 +110,7 @@ impl Site<'_> {
 
     // Why a sheet does not pass.
     pub(crate) fn judge_cause_of(&self, why: JudgeRefusal) -> Option<JudgeCause>
-        ensures { IfSome result (JudgeCauseOf (lanes_of self.now.yard.now) self.now.records why) }
+        ensures { Finds (JudgeCauseOf (lanes_of self.now.yard.now) self.now.records why) result }
     {
         match why {
             JudgeRefusal::NotAtGoal { carrier } => self.not_at_goal(carrier),

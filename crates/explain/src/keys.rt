@@ -6,6 +6,13 @@ use sheet::records::{Precedence, Stop};
 #[derive(Clone, Copy, PartialEq, Eq)]
 pub(crate) struct Previous(pub Option<u16>);
 
+// The key of a stop: the stop before it on its route, and its place.
+#[derive(Clone, Copy, PartialEq, Eq)]
+pub(crate) struct Step {
+    pub previous: Option<u16>,
+    pub place: u16,
+}
+
 // The key of a precedence: the two carriers' stops at its place.
 #[derive(Clone, Copy, PartialEq, Eq)]
 pub(crate) struct StopPair {
@@ -18,6 +25,18 @@ impl Keyed<Previous> for Stop {
 
     fn has_key(&self, wanted: &Previous) -> bool {
         *wanted == Previous(self.previous)
+    }
+}
+
+impl Keyed<Step> for Stop {
+    ghost key = { λ s. record { previous = s.previous; place = s.place } };
+
+    fn has_key(&self, wanted: &Step) -> bool {
+        let step = Step {
+            previous: self.previous,
+            place: self.place,
+        };
+        *wanted == step
     }
 }
 

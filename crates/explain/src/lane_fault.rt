@@ -1,8 +1,6 @@
 // What is wrong with a lane of the yard's file.
-ghost use Rattle.std.specs.Prelude.{◌≡◌, IfSome, Option};
-ghost use Rattle.lane_yard.specs.Refusals.{number_of};
-ghost use Rattle.lane_yard.specs.declared.lane.Lane.{Lane};
-ghost use Rattle.explain.specs.LaneFaults.{FaultOf, fault_number};
+ghost use Rattle.explain.specs.Facts.{Finds};
+ghost use Rattle.explain.specs.LaneFaults.{FaultOf, OutsideLimits};
 
 use lane_yard::lane::Lane;
 use lane_yard::refusal::LayRefusal;
@@ -43,8 +41,7 @@ impl fmt::Display for LaneFault {
 
 // What is wrong with a lane outside the limits. The two places are asked for one by one, as one of them is named.
 fn limit_fault(lane: Lane) -> Option<LaneFault>
-    ensures fact { (before : Option Lane) → IfSome result (FaultOf lane before) }
-    ensures explains { IfSome result (λ fault. fault_number fault ≡ 18) }
+    ensures { Finds (OutsideLimits lane) result }
 {
     let Lane { from, to, time } = lane;
     if from > HIGHEST_PLACE {
@@ -62,8 +59,7 @@ fn limit_fault(lane: Lane) -> Option<LaneFault>
 
 // What is wrong with a lane that was refused, given the one before it.
 pub(crate) fn lane_fault_of(lane: Lane, before: Option<Lane>, why: LayRefusal) -> Option<LaneFault>
-    ensures fact { IfSome result (FaultOf lane before) }
-    ensures explains { IfSome result (λ fault. fault_number fault ≡ number_of why) }
+    ensures { Finds (FaultOf lane before why) result }
 {
     match why {
         LayRefusal::BadLane { .. } => limit_fault(lane),

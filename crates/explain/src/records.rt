@@ -1,10 +1,10 @@
 // What a sheet holds.
-ghost use Rattle.std.specs.Prelude.{◌≡◌, ℕ, MatchOption};
+ghost use Rattle.std.specs.Prelude.{◌≡◌};
 ghost use Rattle.sheet.specs.Sheets.{sheet_book};
-ghost use Rattle.explain.specs.Facts.{Follows, Orders, Visits};
+ghost use Rattle.explain.specs.Facts.{Finds, Follows, IsOrder, StepsTo, Visits};
 ghost use Rattle.explain.specs.Lists.{book_of};
 
-use crate::keys::Previous;
+use crate::keys::{Previous, Step};
 use keyed::find;
 use sheet::records::{Carrier, Order, Precedence, Stop, Visit};
 use sheet::sheets::Sheet;
@@ -44,22 +44,30 @@ impl Records<'_> {
     // The number of the carrier's stop at the place. Each look-up is the one search, by a key of its own. The carrier
     // and the place are of two types, and causes name them one by one, so the key is made only here.
     pub(crate) fn stop_at(&self, carrier: u8, place: u16) -> Option<usize>
-        ensures { MatchOption result ((k : ℕ) → ¬ Visits self.now.stops carrier place k) (Visits self.now.stops carrier place) }
+        ensures { Finds (Visits self.now.stops carrier place) result }
     {
         find(self.stops, &Visit { carrier, place })
     }
 
     // The index of the precedence, where it stands.
     pub(crate) fn standing(&self, order: Order) -> Option<usize>
-        ensures { MatchOption result ((k : ℕ) → ¬ Orders self.now.precedences order.first order.second order.place k) (Orders self.now.precedences order.first order.second order.place) }
+        ensures { Finds (IsOrder self.now.precedences order) result }
     {
         find(self.precedences, &order)
     }
 
     // The number of the stop after this one on its route.
     pub(crate) fn stop_after(&self, stop: u16) -> Option<usize>
-        ensures { MatchOption result ((k : ℕ) → ¬ Follows self.now.stops stop k) (Follows self.now.stops stop) }
+        ensures { Finds (Follows self.now.stops stop) result }
     {
         find(self.stops, &Previous(Some(stop)))
+    }
+
+    // The number of the stop at the place, where the route goes there from the stop.
+    pub(crate) fn step_to(&self, stop: u16, place: u16) -> Option<usize>
+        ensures { Finds (StepsTo self.now.stops stop place) result }
+    {
+        let previous = Some(stop);
+        find(self.stops, &Step { previous, place })
     }
 }

@@ -1,7 +1,8 @@
 // The timetable of a sheet that passes, as a table by carrier.
-ghost use Rattle.std.specs.Prelude.{◌≡◌, ◌≤◌, [], All, Contains, IfSome, MatchOption};
+ghost use Rattle.std.specs.Prelude.{◌≡◌, ◌≤◌, [], All, Contains, MatchOption};
 ghost use Rattle.lane_yard.specs.Meaning.{lanes_of};
 ghost use Rattle.explain.specs.Departures.{Departs};
+ghost use Rattle.explain.specs.Facts.{Finds};
 
 use crate::site::Site;
 use sheet::records::Stop;
@@ -19,7 +20,7 @@ pub(crate) struct Timetable<'a> {
 impl Timetable<'_> {
     // The tick at which a carrier departs from stop `s` to stop `t`: its arrival there less the travel time.
     fn departure(&self, s: u16, t: usize) -> Option<u32>
-        ensures { IfSome result (Departs (lanes_of self.now.site.yard.now) self.now.site.records.stops self.now.arrivals.now s t) }
+        ensures { Finds (Departs (lanes_of self.now.site.yard.now) self.now.site.records.stops self.now.arrivals.now s t) result }
     {
         let stops = self.site.records.stops;
         let from = stops.get(usize::from(s))?.place;
