@@ -16,7 +16,8 @@ use Rattle.sheet.specs.Records.{book_carrier, book_stop, book_precedence, no_car
 use Rattle.sheet.proofs.SliceGet.{slice_get-map_some, slice_get-map_from}
 use Rattle.explain.specs.Causes.{CarrierCause, StopCause, OrderCause, CauseOf}
 use Rattle.explain.specs.Facts as facts
-use Rattle.explain.specs.Facts.{Finds, Begins, Ends, AtGoal, IsOrder, reversed}
+use Rattle.explain.specs.Facts.{Begins, Ends, AtGoal, IsOrder, reversed}
+use Rattle.explain.specs.Found.{Finds}
 use Rattle.explain.specs.Lists.{Lists, book_of}
 use Rattle.explain.specs.Refused.{RefusedAs}
 use Rattle.explain.specs.declared.cause.Cause.{Cause}

@@ -1,15 +1,10 @@
 -- Facts of a sheet's lists.
-use Rattle.std.specs.Prelude.{◌≡◌, ℕ, ◌<◌, List, length, Some, None, Option, slice_index_or}
+use Rattle.std.specs.Prelude.{◌≡◌, ℕ, ◌<◌, List, length, Some, slice_index_or}
 use Rattle.sheet.specs.declared.records.Carrier.{Carrier}
 use Rattle.sheet.specs.declared.records.Order.{Order}
 use Rattle.sheet.specs.declared.records.Stop.{Stop}
 use Rattle.sheet.specs.declared.records.Precedence.{Precedence}
 use Rattle.sheet.specs.Records.{no_carrier, no_stop, no_precedence}
-
--- what is found has the property, and nothing is found only where nothing has it
-abbrev pub Finds : {A : Type 0} → (A → Type 0) → Option A → Type 0
-Finds Has (Some a) = Has a
-Finds {A = A} Has None = (a : A) → ¬ Has a
 
 -- the carrier's start is the place
 abbrev pub Begins : List Carrier → ℕ → ℕ → Type 0

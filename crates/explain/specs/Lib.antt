@@ -1,9 +1,10 @@
 pub mod Causes
 pub mod Departures
 pub mod Facts
+pub mod Found
 pub mod Judged
-pub mod LaneFaults
 pub mod Lags
+pub mod LaneFaults
 pub mod Lists
-pub mod Ticks
 pub mod Refused
+pub mod Ticks

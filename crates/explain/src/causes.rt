@@ -3,7 +3,8 @@ ghost use Rattle.std.specs.Prelude.{ℕ, ◌<◌, ◌≤◌, length, IsSome};
 ghost use Rattle.std.specs.Option.{SomeIff};
 ghost use Rattle.sheet.specs.declared.refusal.EntryRefusal.TheVariants.{EndTaken, FirstsGoalOrSecondsStart, NothingToStrike};
 ghost use Rattle.explain.specs.Causes.{CarrierCause, CauseOf, OrderCause, StopCause};
-ghost use Rattle.explain.specs.Facts.{AtGoal, Finds, Stands, Visits};
+ghost use Rattle.explain.specs.Facts.{AtGoal, Stands, Visits};
+ghost use Rattle.explain.specs.Found.{Finds};
 ghost use Rattle.explain.specs.Refused.{RefusedAs};
 ghost use Rattle.explain.specs.declared.cause.Cause.TheVariants.{Decided, NoCarrier, NotOnRoute, PlaceTooHigh};
 

@@ -1,7 +1,8 @@
 // Finding why a sheet does not pass.
 ghost use Rattle.std.specs.Prelude.{◌↔◌, IsTrue};
 ghost use Rattle.lane_yard.specs.Meaning.{lanes_of};
-ghost use Rattle.explain.specs.Facts.{Finds, GoesTo, Stands};
+ghost use Rattle.explain.specs.Facts.{GoesTo, Stands};
+ghost use Rattle.explain.specs.Found.{Finds};
 ghost use Rattle.explain.specs.Judged.{JudgeCauseOf};
 ghost use Rattle.judge.specs.declared.refusal.JudgeRefusal.TheVariants.{HeadOn, NoLane, NotAtGoal, Undecided};
 

@@ -1,5 +1,5 @@
 // What is wrong with a lane of the yard's file.
-ghost use Rattle.explain.specs.Facts.{Finds};
+ghost use Rattle.explain.specs.Found.{Finds};
 ghost use Rattle.explain.specs.LaneFaults.{FaultOf, OutsideLimits};
 
 use lane_yard::lane::Lane;

@@ -1,7 +1,8 @@
 // What a sheet holds.
 ghost use Rattle.std.specs.Prelude.{◌≡◌};
 ghost use Rattle.sheet.specs.Sheets.{sheet_book};
-ghost use Rattle.explain.specs.Facts.{Finds, Follows, IsOrder, StepsTo, Visits};
+ghost use Rattle.explain.specs.Facts.{Follows, IsOrder, StepsTo, Visits};
+ghost use Rattle.explain.specs.Found.{Finds};
 ghost use Rattle.explain.specs.Lists.{book_of};
 
 use crate::keys::{Previous, Step};

@@ -1,6 +1,6 @@
 // Finding the lag between two stops: each function finds such a lag, and none only where there is none.
 ghost use Rattle.lane_yard.specs.Meaning.{lanes_of};
-ghost use Rattle.explain.specs.Facts.{Finds};
+ghost use Rattle.explain.specs.Found.{Finds};
 ghost use Rattle.explain.specs.Lags.{LagBetween, Travels, Waits};
 
 use crate::keys::StopPair;

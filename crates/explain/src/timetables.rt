@@ -2,7 +2,7 @@
 ghost use Rattle.std.specs.Prelude.{◌≡◌, ◌≤◌, [], All, Contains, MatchOption};
 ghost use Rattle.lane_yard.specs.Meaning.{lanes_of};
 ghost use Rattle.explain.specs.Departures.{Departs};
-ghost use Rattle.explain.specs.Facts.{Finds};
+ghost use Rattle.explain.specs.Found.{Finds};
 
 use crate::site::Site;
 use sheet::records::Stop;
