@@ -1,2 +1,3 @@
 mod Finds
+mod JudgeNamed
 mod Named

@@ -24,8 +24,8 @@ use Rattle.explain.specs.declared.cause.Cause.{Cause}
 use Rattle.explain.specs.declared.cause.Cause.TheVariants as cause
 
 -- no cause is named
-abbrev Unnamed : (Cause → Type 0) → Type 0
-Unnamed Why = (c : Cause) → ¬ Why c
+abbrev pub Unnamed : {A : Type 0} → (A → Type 0) → Type 0
+Unnamed {A = A} Why = (c : A) → ¬ Why c
 
 module _ (lists : Lists) where
   -- what the book says of a number, and what the records say
@@ -39,7 +39,7 @@ module _ (lists : Lists) where
       let from = slice_get-map_from book_carrier lists.carriers c _ e in
       (slice_get_within lists.carriers c from.0 from.1, grind (arith, get_or_from_slice_get lists.carriers c from.0 no_carrier from.1, from.2))
 
-  visits : (s c u : ℕ) → Visits (book_of lists) s c u → facts.Visits lists.stops c u s
+  pub visits : (s c u : ℕ) → Visits (book_of lists) s c u → facts.Visits lists.stops c u s
   visits s c u e =
       let from = slice_get-map_from book_stop lists.stops s _ e in
       let at = get_or_from_slice_get lists.stops s from.0 no_stop from.1 in
@@ -48,13 +48,13 @@ module _ (lists : Lists) where
   visits_back : (s c u : ℕ) → facts.Visits lists.stops c u s → Visits (book_of lists) s c u
   visits_back s c u v = grind (arith, v, slice_get-map_some book_stop lists.stops s _ (slice_get-get_or lists.stops s no_stop v.0))
 
-  stands : (o : Order) → Standing (book_of lists) o.first o.second o.place → facts.Stands lists.precedences o
+  pub stands : (o : Order) → Standing (book_of lists) o.first o.second o.place → facts.Stands lists.precedences o
   stands o (k, e) =
       let from = slice_get-map_from book_precedence lists.precedences k _ e in
       let at = get_or_from_slice_get lists.precedences k from.0 no_precedence from.1 in
       (k, (slice_get_within lists.precedences k from.0 from.1, grind (arith, at, from.2), grind (arith, at, from.2), grind (arith, at, from.2)))
 
-  stands_back : (o : Order) → facts.Stands lists.precedences o → Standing (book_of lists) o.first o.second o.place
+  pub stands_back : (o : Order) → facts.Stands lists.precedences o → Standing (book_of lists) o.first o.second o.place
   stands_back o (k, v) = (k, grind (arith, v, slice_get-map_some book_precedence lists.precedences k _ (slice_get-get_or lists.precedences k no_precedence v.0)))
 
   off_route : (c u : ℕ) → ¬ OnRoute (book_of lists) c u → (s : ℕ) → ¬ facts.Visits lists.stops c u s

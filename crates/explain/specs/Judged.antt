@@ -49,7 +49,7 @@ module _ (lanes : ℕ → ℕ → Option ℕ) (lists : Lists) where
   abbrev pub JudgeCauseOf : JudgeRefusal → JudgeCause → Type 0
   JudgeCauseOf (refusal.NotAtGoal c) why = (why ≡ short_of_goal lists c) × (c < length lists.carriers) × ((carrier_at lists c).last_place ≢ (carrier_at lists c).goal)
   JudgeCauseOf (refusal.NoLane s) why = (p : ℕ) × (why ≡ undriven lists p s) × Both lists p s × ((stop_at lists s).previous ≡ Some p) × (lanes (stop_at lists p).place (stop_at lists s).place ≡ None)
-  JudgeCauseOf (refusal.Undecided s t) why = (why ≡ unordered lists s t) × Both lists s t × ((stop_at lists s).place ≡ (stop_at lists t).place) × (¬ Stands lists.precedences (order_of lists s t)) × ¬ Stands lists.precedences (reversed (order_of lists s t))
+  JudgeCauseOf (refusal.Undecided s t) why = (why ≡ unordered lists s t) × Both lists s t × ((stop_at lists s).carrier ≢ (stop_at lists t).carrier) × ((stop_at lists s).place ≡ (stop_at lists t).place) × (¬ Stands lists.precedences (order_of lists s t)) × ¬ Stands lists.precedences (reversed (order_of lists s t))
   JudgeCauseOf (refusal.HeadOn s t) why = (why ≡ opposed lists s t) × Both lists s t × Opposes lists s t × Opposes lists t s
   JudgeCauseOf (refusal.Ring stops) why = why ≡ cause.Ring stops
   JudgeCauseOf refusal.PageTooShort why = ⊥

@@ -1,10 +1,14 @@
 // Finding why a sheet does not pass.
-ghost use Rattle.std.specs.Prelude.{◌↔◌, IsTrue};
+ghost use Rattle.std.specs.Prelude.{◌≡◌, ◌≢◌, ◌↔◌, IsSome, IsTrue};
 ghost use Rattle.lane_yard.specs.Meaning.{lanes_of};
 ghost use Rattle.explain.specs.Facts.{GoesTo, Stands};
 ghost use Rattle.explain.specs.Found.{Finds};
 ghost use Rattle.explain.specs.Judged.{JudgeCauseOf};
-ghost use Rattle.judge.specs.declared.refusal.JudgeRefusal.TheVariants.{HeadOn, NoLane, NotAtGoal, Undecided};
+ghost use Rattle.explain.specs.Lists.{lists_of};
+ghost use Rattle.explain.specs.Refused.{RefusedJudging};
+ghost use Rattle.sheet.specs.Sheets.{sheet_book};
+ghost use Rattle.sheet.specs.declared.sheets.Sheet.{Sheet};
+ghost use Rattle.judge.specs.declared.refusal.JudgeRefusal.TheVariants.{HeadOn, NoLane, NotAtGoal, PageTooShort, Undecided};
 
 use crate::judge_cause::JudgeCause;
 use crate::records::Records;
@@ -74,7 +78,8 @@ impl Site<'_> {
             second: t.carrier,
             place: s.place,
         };
-        if s.place != t.place
+        if s.carrier == t.carrier
+            || s.place != t.place
             || records.standing(order).is_some()
             || records.standing(order.reversed()).is_some()
         {
@@ -109,9 +114,10 @@ impl Site<'_> {
         })
     }
 
-    // Why a sheet does not pass.
+    // Why a sheet does not pass: there is a cause for each refusal of a judging with pages that are long enough.
     pub(crate) fn judge_cause_of(&self, why: JudgeRefusal) -> Option<JudgeCause>
-        ensures { Finds (JudgeCauseOf (lanes_of self.now.yard.now) self.now.records why) result }
+        ensures finds { Finds (JudgeCauseOf (lanes_of self.now.yard.now) self.now.records why) result }
+        ensures named { (s : Sheet) → self.now.records ≡ lists_of s → RefusedJudging (lanes_of self.now.yard.now) (sheet_book s) why → why ≢ PageTooShort → IsSome result }
     {
         match why {
             JudgeRefusal::NotAtGoal { carrier } => self.not_at_goal(carrier),

@@ -1,9 +1,8 @@
 // What a sheet holds.
 ghost use Rattle.std.specs.Prelude.{◌≡◌};
-ghost use Rattle.sheet.specs.Sheets.{sheet_book};
 ghost use Rattle.explain.specs.Facts.{Follows, IsOrder, StepsTo, Visits};
 ghost use Rattle.explain.specs.Found.{Finds};
-ghost use Rattle.explain.specs.Lists.{book_of};
+ghost use Rattle.explain.specs.Lists.{lists_of};
 
 use crate::keys::{Previous, Step};
 use keyed::find;
@@ -31,7 +30,7 @@ impl<'a> Model for Records<'a> {
 impl<'a> Records<'a> {
     // Those of this sheet.
     pub(crate) fn of(sheet: &'a Sheet) -> Records<'a>
-        ensures { book_of result ≡ sheet_book sheet.now }
+        ensures { result ≡ lists_of sheet.now }
     {
         Records {
             carriers: sheet.carriers(),

@@ -1,7 +1,6 @@
 // A sheet in its yard.
 ghost use Rattle.std.specs.Prelude.{◌≡◌};
-ghost use Rattle.sheet.specs.Sheets.{sheet_book};
-ghost use Rattle.explain.specs.Lists.{book_of};
+ghost use Rattle.explain.specs.Lists.{lists_of};
 
 use crate::records::Records;
 use lane_yard::yards::LaneYard;
@@ -17,7 +16,7 @@ pub(crate) struct Site<'a> {
 impl<'a> Site<'a> {
     // Those of this session.
     pub(crate) fn of(session: &'a Session) -> Site<'a>
-        ensures sheet { book_of result.records ≡ sheet_book session.now.sheet }
+        ensures sheet { result.records ≡ lists_of session.now.sheet }
         ensures yard { result.yard.now ≡ session.now.yard }
     {
         Site {
