@@ -15,7 +15,7 @@ abbrev pub Adjacent : ℕ → ℕ → Type 0
 Adjacent a b = (a + 1 ≡ b) ⊎ (b + 1 ≡ a)
 
 module _ (g : Plan) where
-  -- cell row × columns + column stands in that row and that column
+  -- row and column of a cell, whose number is row × columns + column
   abbrev pub row_of : ℕ → ℕ
   row_of c = c / g.columns
 
@@ -36,7 +36,7 @@ module _ (g : Plan) (words : List ℕ) where
   abbrev pub Open : ℕ → Type 0
   Open c = (c < g.rows * g.columns) × (bit_of words c ≢ 1)
 
-  -- open cells that touch by a side are joined by a lane: within a row by the one travel time, within a column by the other
+  -- open cells that touch by a side are joined by a lane, of the travel time along a row or of that along a column
   abbrev pub Joined : ℕ → ℕ → ℕ → Type 0
   Joined a b time = Open a × Open b × ((InRow g a b × (time ≡ g.along)) ⊎ (InColumn g a b × (time ≡ g.across)))
 

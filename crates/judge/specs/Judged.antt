@@ -82,7 +82,8 @@ module _ (j : Judging) (b : Book) where
     pub ceiling : (s : ℕ) → slice_index times s ≤ (length b.stops - 1) * max 36000 j.largest
     pub ring_stands : j.pages.ring_after ≡ j.pages.ring
 
-  -- the first k numbers of the ring page are a ring of the sheet's lags, and everything else on the pages stands
+  -- the first k numbers of the ring page are a ring of the sheet's lags, with a sum above 0, and everything else on the
+  -- pages stands; which such ring is left open
   pub record WaitsInARing (k : ℕ) : Type 0 where
     pub stops : List ℕ
     pub long : length stops ≡ k

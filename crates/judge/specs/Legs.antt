@@ -27,11 +27,11 @@ next_after legs s = (slice_index_or legs s no_leg).next
 abbrev pub NextsInside : List Leg → Type 0
 NextsInside legs = (s t : ℕ) → next_after legs s ≡ Some t → t < length legs
 
--- the travel time to each next stop is that of a lane
+-- the travel time to each next stop is one that a lane may have
 abbrev pub Timely : List Leg → Type 0
 Timely legs = (s t : ℕ) → next_after legs s ≡ Some t → (1 ≤ time_to legs t) × (time_to legs t ≤ 36000)
 
--- the travel time of each step is that of a lane
+-- the travel time to each stop that follows another is one that a lane may have
 abbrev pub Stepped : List Stop → List Leg → Type 0
 Stepped stops legs = (t p : ℕ) → t < length stops → (slice_index_or stops t no_stop).previous ≡ Some p → (1 ≤ time_to legs t) × (time_to legs t ≤ 36000)
 

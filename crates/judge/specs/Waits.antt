@@ -15,7 +15,7 @@ pub record Travel (stops : List Stop) (legs : List Leg) (n : ℕ) (g : Lag) : Ty
   pub step : (slice_index_or stops g.to no_stop).previous ≡ Some g.from
   pub weighs : g.weight ≡ pos (time_to legs g.to)
 
--- the lag of precedence k: from the first carrier's next stop to the second carrier's stop
+-- the lag of a precedence: from the first carrier's next stop to the second carrier's stop
 pub record Waiting (gap : ℕ → ℕ → ℕ → ℕ) (stops : List Stop) (legs : List Leg) (p : Precedence) (g : Lag) : Type 0 where
   pub from_next : next_after legs p.first_stop ≡ Some g.from
   pub to_second : g.to ≡ p.second_stop

@@ -5,7 +5,7 @@ use Rattle.lags.specs.declared.Lag.{Lag}
 use Rattle.lags.specs.Solved.{at}
 use Rattle.lags.specs.Times.{AtLeast, AtMost, LessThan}
 
--- the lag at a place of the list; what is read past its end never counts
+-- the lag at an index of the list; what is read past its end never counts
 abbrev pub no_lag : Lag
 no_lag = record { from = 0; to = 0; weight = pos 0 }
 

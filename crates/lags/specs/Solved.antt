@@ -10,7 +10,7 @@ use Rattle.lags.specs.Ways.{Ring, Solution, Least}
 abbrev pub Listed : List Lag → ℕ → ℕ → ℤ → Type 0
 Listed lags s t w = Contains lags (record { from = s; to = t; weight = w })
 
--- the arrival at a node
+-- the number at an index, as the arrival at a node
 abbrev pub at : List ℕ → ℕ → ℕ
 at α v = slice_index α v
 
@@ -36,19 +36,22 @@ pub record Fit (lags : List Lag) (nodes room : ℕ) : Type 0 where
 abbrev pub Under : List Lag → ℕ → Type 0
 Under lags w = All (λ g. g.weight ≤ℤ pos w) lags
 
--- α has the least solution, and no arrival of it is above the longest way through all nodes
+-- α has the least solution, and no arrival of it is above as many times w as there are nodes less one, where no weight is
+-- above w
 pub record Earliest (lags : List Lag) (α : List ℕ) : Type 0 where
   pub least : Least (Listed lags) (at α)
   pub ceiling : (w : ℕ) → Under lags w → (v : ℕ) → at α v ≤ (length α - 1) * w
 
--- the first k numbers of the page are a ring, so that there is no solution, and the others are as before
+-- the first k numbers of the page are a ring with a sum above 0, so that there is no solution, and the others are as
+-- before; which such ring is left open
 pub record Looped (lags : List Lag) (nodes k : ℕ) (before after : List ℕ) : Type 0 where
   pub ring : Ring (Listed lags) (take k after)
   pub within : k ≤ nodes
   pub stands : drop k after ≡ drop k before
   pub unsolvable : (α : ℕ → ℕ) → ¬ Solution (Listed lags) α
 
--- what the solver answers, and what it leaves in the arrivals and on the ring page
+-- what the solver answers, and what it leaves in the arrivals and on the ring page; what the arrivals hold beside a ring
+-- is left open
 abbrev pub Solved : List Lag → List ℕ → List ℕ → List ℕ → List ℕ → Result (Unit {0}) Unsolved → Type 0
 Solved lags α α' page page' (Ok _) = Fit lags (length α) (length page) × Earliest lags α' × (page' ≡ page)
 Solved lags α α' page page' (Err (RingOf k)) = Fit lags (length α) (length page) × Looped lags (length α) k page page'

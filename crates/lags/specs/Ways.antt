@@ -9,7 +9,8 @@ module _ (Between : ℕ → ℕ → ℤ → Type 0) where
     last : {s t : ℕ} {w : ℤ} → Between s t w → Way s (s ∷ []) t w
     more : {s t r : ℕ} {l : List ℕ} {w x : ℤ} → Between s t w → Way t l r x → Way s (s ∷ l) r (w +ℤ x)
 
-  -- a way round through distinct nodes, from the lowest of them, whose sum is above zero
+  -- a ring with a lag sum above 0: a way round through distinct nodes, from the lowest of them; a ring whose sum is 0 or
+  -- less forbids nothing, and is none here
   pub record Ring (l : List ℕ) : Type 0 where
     pub from : ℕ
     pub sum : ℤ

@@ -3,7 +3,7 @@ use Rattle.std.proofs.Common.{◌≡◌, ℕ, List, Some, None, rules}
 use Rattle.std.specs.Prelude.{slice_index_or}
 use Rattle.keyed.specs.Search.{First, Nowhere}
 use Rattle.lane_yard.specs.declared.lane.Lane.{Lane}
-use Rattle.lane_yard.specs.Times.{time_at, time_none}
+use Rattle.lane_yard.proofs.Times.{time_at, time_none}
 use Rattle.lane_yard.specs.Records.{no_lane, time_of}
 
 abbrev pub places : Lane → ℕ × ℕ

@@ -3,7 +3,7 @@ use Rattle.std.proofs.Common.{◌≡◌, ℕ, ◌+◌, ◌<◌, ◌≤◌, ◌�
 use Rattle.std.proofs.lemmas.Bool.Decides.{nat_tests}
 use Rattle.std.proofs.lemmas.List.{get_or-take, get_or-drop, take-append-drop, length-take-le, length-drop}
 use Rattle.lane_yard.specs.declared.lane.Lane.{Lane}
-use Rattle.lane_yard.specs.Times.{time_none}
+use Rattle.lane_yard.proofs.Times.{time_none}
 use Rattle.lane_yard.specs.Records.{no_lane, Rising, time_of}
 use Rattle.lane_yard.proofs.Rises.{far}
 

@@ -1,3 +1,4 @@
+pub mod Times
 pub mod Rises
 pub mod Halves
 pub mod Found

@@ -4,7 +4,7 @@ use Rattle.std.specs.List.{Contains}
 use Rattle.std.proofs.lemmas.List.{get_or_default}
 use Rattle.lane_yard.specs.declared.lane.Lane.{Lane}
 use Rattle.lane_yard.specs.Records.{lane, no_lane, time_of, Rising, Tells, LanesOf}
-use Rattle.lane_yard.specs.Times.{way}
+use Rattle.lane_yard.proofs.Times.{way}
 use Rattle.lane_yard.proofs.Rises.{only}
 
 -- what is answered stands in the list

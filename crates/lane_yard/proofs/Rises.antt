@@ -1,7 +1,7 @@
 -- What rising lanes keep: two lanes never join the same places, and a binary search by the places finds their lane.
 use Rattle.std.proofs.Common.{◌≡◌, ℕ, zero, suc, ◌<◌, List, length, slice_index_or, Some, add-one, arith}
 use Rattle.lane_yard.specs.declared.lane.Lane.{Lane}
-use Rattle.lane_yard.specs.Times.{time_at}
+use Rattle.lane_yard.proofs.Times.{time_at}
 use Rattle.lane_yard.specs.Records.{no_lane, Before, Rising, time_of}
 
 -- each lane comes before each later one

@@ -13,7 +13,8 @@ Clean xs n = ((k : ℕ) → k < n → Within (slice_index_or xs k no_lane)) × (
 abbrev pub Lawful : List Lane → Type 0
 Lawful xs = (length xs ≤ 8192) × Clean xs (length xs)
 
--- the first fault of a list, lane by lane, where there are not too many
+-- the first fault of a list: that there are too many lanes, or else, lane by lane, the first that is not within the limits
+-- or does not rise
 abbrev pub Fault : List Lane → LayRefusal → Type 0
 Fault xs TooManyLanes = 8192 < length xs
 Fault xs (BadLane i) = (length xs ≤ 8192) × (i < length xs) × Clean xs i × (¬ Within (slice_index_or xs i no_lane))

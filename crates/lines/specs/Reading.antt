@@ -10,7 +10,7 @@ use Rattle.lines.specs.Entries.{has}
 use Rattle.yard.specs.declared.rules.Rule.{Rule}
 use Rattle.yard.specs.declared.rules.Rule.TheVariants.{FullLane, LaneLessOne, FixedGap}
 
--- the number in two bytes from a place on
+-- the number in two bytes from an index on
 abbrev pub word : List ℕ → ℕ → ℕ
 word bs i = slice_index bs i * 256 + slice_index bs (1 + i)
 

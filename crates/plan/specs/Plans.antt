@@ -10,7 +10,7 @@ Lanes = ℕ → ℕ → Option ℕ
 abbrev pub Gaps : Type 0
 Gaps = ℕ → ℕ → ℕ → ℕ
 
--- the tick at which a carrier departs towards its stop t, d ticks away
+-- the tick at which a carrier departs towards its stop t, d ticks away; in a timed plan it is never cut off at 0
 abbrev pub departs : (ℕ → ℕ) → ℕ → ℕ → ℕ
 departs α t d = α t - d
 

@@ -16,6 +16,7 @@ pub data Call : Type 0 where
 abbrev pub Answer : Type 0
 Answer = Result ℕ EntryRefusal
 
+-- no place has this number
 abbrev pub TooHigh : ℕ → Type 0
 TooHigh u = 4095 < u
 
@@ -23,6 +24,7 @@ TooHigh u = 4095 < u
 abbrev pub Unknown : Book → ℕ → Type 0
 Unknown b c = length b.carriers ≤ c
 
+-- the limits: 64 carriers, 1,024 stops and 2,048 standing precedences
 abbrev pub CarriersFull : Book → Type 0
 CarriersFull b = 64 ≤ length b.carriers
 
@@ -56,6 +58,7 @@ pair_checks b first second others =
     (check (first ≡ second) SameCarrier
     others)
 
+-- the checks of each call
 abbrev pub checks : Book → Call → Checks
 checks b (enter_carrier start goal) =
     check (TooHigh start ⊎ TooHigh goal) PlaceTooHigh

@@ -13,7 +13,7 @@ use Rattle.plan.specs.Plans.{Gaps, Leg, head_on as meet_head_on}
 use Rattle.plan.specs.Theorems.{Positive}
 use Rattle.judge.specs.Findings.{Setting, passes}
 use Rattle.judge.specs.FindingHistories.{Event, entered, judged, Lawful}
-use Rattle.worked.specs.Examples.{LagIn, under, full_lane, lane_less_one, fixed_gap, lanes_of_P, P, S, S_struck, S_turned, judges_S, turns_S, LagsOfS, HeadOnApart, triangle_lanes, triangle, judges_triangle, triangle_sheet, judges_one, one_sheet, first_calls, first_sheet, LittleGrid, TwoRows, ListsOfLanes, Examples}
+use Rattle.worked.specs.Examples.{LagIn, under, full_lane, lane_less_one, fixed_gap, lanes_of_P, P, precedence, S, S_with, S_turned, judges_S, turns_S, LagsOfS, HeadOnApart, triangle_lanes, triangle, judges_triangle, triangle_sheet, judges_one, one_sheet, first_calls, first_sheet, LittleGrid, TwoRows, ListsOfLanes, Examples}
 use Rattle.worked.proofs.Steps.{ALeg, IsLeg, legs, exactly_legs}
 use Rattle.worked.proofs.Entries.{left}
 use Rattle.worked.proofs.Histories.{Conclusions, lawful}
@@ -40,7 +40,7 @@ S_judged : (gap : Gaps) (largest : ℕ) → Lawful (turns_S gap largest) S_turne
 S_judged gap largest =
     let y = under gap largest P in
     lawful (turns_S gap largest) S_turned refl refl
-    ((S_passes, (lit≤ tt, finds_undecided y S_struck 2 5 refl refl)), (lit≤ tt, finds_head_on y S_turned P_positive refl 1 2 refl))
+    ((S_passes, (lit≤ tt, finds_undecided y (S_with (precedence 1 0 2 ∷ [])) 2 5 refl refl)), (lit≤ tt, finds_head_on y S_turned P_positive refl 1 2 refl))
 
 S_lags : LagsOfS
 S_lags = search (rules, the_lags)

@@ -1,5 +1,8 @@
 -- The worked examples: whole histories of sheets with every answer and every finding, and the lanes of small grids.
-use Rattle.std.specs.Prelude.{◌≡◌, ℕ, ◌-◌, ◌≤◌, ◌↔◌, List, [], ◌∷◌, ℤ, pos, negsuc, Some, None, Ok, Err, slice_index}
+use Rattle.std.specs.Prelude.{◌≡◌, ℕ, ◌≤◌, ◌↔◌, List, [], ◌∷◌, ℤ, pos, negsuc, Some, None, Ok, Err, slice_index}
+use Rattle.yard.specs.Rules.{gaps_of}
+use Rattle.yard.specs.declared.rules.Rule.{Rule}
+use Rattle.yard.specs.declared.rules.Rule.TheVariants.{FullLane, LaneLessOne, FixedGap}
 use Rattle.lane_yard.specs.declared.lane.Lane.{Lane}
 use Rattle.lane_yard.specs.declared.refusal.LayRefusal.TheVariants.{BadLane, NotRising}
 use Rattle.lane_yard.specs.Records.{lane, time_of}
@@ -24,17 +27,21 @@ use Rattle.judge.specs.FindingHistories.{Event, entered, judged, Lawful}
 abbrev pub under : Gaps → ℕ → Lanes → Setting
 under gap largest lanes = record { lanes = lanes; gap = gap; largest = largest }
 
--- full lane: the gap is the travel time
+-- the gaps of a following rule
+abbrev pub gaps : Rule ℕ → Gaps
+gaps rule = gaps_of (λ g. g) rule
+
+-- under the rule full lane
 abbrev pub full_lane : Lanes → Setting
-full_lane lanes = under (λ u v time. time) 36000 lanes
+full_lane lanes = under (gaps FullLane) 36000 lanes
 
--- lane less one: one tick less than the travel time
+-- under the rule lane less one
 abbrev pub lane_less_one : Lanes → Setting
-lane_less_one lanes = under (λ u v time. time - 1) 35999 lanes
+lane_less_one lanes = under (gaps LaneLessOne) 35999 lanes
 
--- fixed gap: the same for every lane
+-- under a fixed gap of so many ticks
 abbrev pub fixed_gap : ℕ → Lanes → Setting
-fixed_gap ticks lanes = under (λ u v time. ticks) 36000 lanes
+fixed_gap ticks lanes = under (gaps (FixedGap ticks)) 36000 lanes
 
 -- a lag of w from stop s to stop t
 abbrev pub LagIn : Setting → Book → ℕ → ℕ → ℤ → Type 0
@@ -84,11 +91,7 @@ S_with standing = record {
 abbrev pub S : Book
 S = S_with (precedence 1 0 2 ∷ precedence 1 0 1 ∷ [])
 
--- with the second precedence struck
-abbrev pub S_struck : Book
-S_struck = S_with (precedence 1 0 2 ∷ [])
-
--- with that precedence entered the other way round
+-- with the second precedence struck and entered the other way round
 abbrev pub S_turned : Book
 S_turned = S_with (precedence 1 0 2 ∷ precedence 0 1 1 ∷ [])
 

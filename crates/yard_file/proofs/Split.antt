@@ -4,7 +4,12 @@ use Rattle.std.proofs.lemmas.List.Elements.{All-head, All-tail, All-push}
 use Rattle.std.proofs.lemmas.List.{append_assoc}
 use Rattle.std.proofs.lemmas.Bool.Decides.{nat_tests}
 use Rattle.yard_file.specs.Lines.{lines_of}
-use Rattle.yard_file.specs.Splits.{NoNewline, Split, joined, last_line}
+use Rattle.yard_file.specs.Splits.{NoNewline, Split, joined}
+
+-- the line that has begun, if it has a byte
+abbrev last_line : List ℕ → List (List ℕ)
+last_line [] = []
+last_line (b ∷ bs) = (b ∷ bs) ∷ []
 
 ended_line : (line rest : List ℕ) → NoNewline line → lines_of (line ++ 10 ∷ rest) ≡ line ∷ lines_of rest
 ended_line [] rest no_newline = refl

@@ -10,11 +10,6 @@ abbrev pub joined : List (List ℕ) → List ℕ → List ℕ
 joined [] begun = begun
 joined (line ∷ lines) begun = line ++ 10 ∷ joined lines begun
 
--- the line that has begun, if it has a byte
-abbrev pub last_line : List ℕ → List (List ℕ)
-last_line [] = []
-last_line (b ∷ bs) = (b ∷ bs) ∷ []
-
 -- an input, taken apart
 pub record Split (bytes : List ℕ) (ended : List (List ℕ)) (begun : List ℕ) : Type 0 where
   pub whole : bytes ≡ joined ended begun
