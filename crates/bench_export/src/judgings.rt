@@ -1,7 +1,7 @@
 // Sheets that are entered and judged many times over.
 ghost use Rattle.std.specs.Prelude.{◌≡◌, ◌<◌, ◌≤◌, length, IfOk, MatchResult};
 ghost use Rattle.bench_export.specs.Entering.{AllEntered, NotFilled};
-ghost use Rattle.bench_export.specs.Judging.{Comes, InYard, JudgedOften, Laid, NotLaid, NotSetOut, SetOut, Tells, pages};
+ghost use Rattle.bench_export.specs.Judging.{InYard, JudgedOften, Laid, NotLaid, NotSetOut, SetOut, Tells, pages};
 ghost use Rattle.bench_export.specs.Numbers.{calls_in, lanes_in};
 ghost use Rattle.bench_export.specs.Rules.{setting_of};
 ghost use Rattle.grid_yard.specs.Meaning.{lanes_of as grid_lanes};
@@ -122,38 +122,6 @@ impl Run<'_> {
         };
         Ok(answer?)
     }
-
-    // The same in a yard with the lanes, laid so many times.
-    fn in_lanes(
-        &self,
-        heap: Global,
-        lanes: &[u16],
-        layings: u32,
-        timetable: &mut [u32],
-        ring: &mut [u16],
-    ) -> Result<u16, Fault>
-        ensures comes { Comes (Laid layings (lanes_in lanes.now)) (NotLaid layings (lanes_in lanes.now)) (calls_in self.now.entries.now) self.now.rule self.now.judgings (pages timetable.old ring.old timetable.new ring.new) result }
-        ensures within { IfOk result (λ stops. stops ≤ length timetable.new) }
-    {
-        let yard = lay(heap, lanes, layings)?;
-        self.in_yard(heap, &yard, timetable, ring)
-    }
-
-    // The same in a grid.
-    fn in_grid(
-        &self,
-        heap: Global,
-        plan: Plan,
-        closed: &[u64],
-        timetable: &mut [u32],
-        ring: &mut [u16],
-    ) -> Result<u16, Fault>
-        ensures comes { Comes (SetOut plan closed.now) (NotSetOut plan closed.now) (calls_in self.now.entries.now) self.now.rule self.now.judgings (pages timetable.old ring.old timetable.new ring.new) result }
-        ensures within { IfOk result (λ stops. stops ≤ length timetable.new) }
-    {
-        let yard = set_out(heap, plan, closed)?;
-        self.in_yard(heap, &yard, timetable, ring)
-    }
 }
 
 // Lays the lanes so many times, enters the sheet so many times and at least once, and judges it so many times. The
@@ -182,7 +150,10 @@ pub extern "C" fn vozhdeka_judge_lanes(
         rule: rule_of(rule, gap),
         judgings,
     };
-    code_of(run.in_lanes(heap, lanes, layings, timetable, ring))
+    match lay(heap, lanes, layings) {
+        Ok(yard) => code_of(run.in_yard(heap, &yard, timetable, ring)),
+        Err(fault) => code_of(Err(fault)),
+    }
 }
 
 // The same in a grid, which is set out once. A function of its own, since the C interface has two.
@@ -217,5 +188,8 @@ pub extern "C" fn vozhdeka_judge_grid(
         rule: rule_of(rule, gap),
         judgings,
     };
-    code_of(run.in_grid(heap, plan, closed, timetable, ring))
+    match set_out(heap, plan, closed) {
+        Ok(yard) => code_of(run.in_yard(heap, &yard, timetable, ring)),
+        Err(fault) => code_of(Err(fault)),
+    }
 }
