@@ -1,5 +1,7 @@
 // Why a measured call is not carried out.
-ghost use Rattle.std.specs.Prelude.{◌≡◌, ◌≤◌, MatchResult};
+ghost use Rattle.std.specs.Prelude.{◌≡◌};
+ghost use Rattle.bench_export.specs.Codes.{code_of as code_told, number_of, told_by};
+ghost use Rattle.bench_export.specs.declared.fault.Fault.TheVariants.{Entry, Grid, Judge, Lay, NoMemory};
 
 use grid_yard::refusal::GridRefusal;
 use judge::refusal::JudgeRefusal;
@@ -24,30 +26,40 @@ pub(crate) enum Fault {
 // The conversions are written out: the kit's derive for errors would want a text for each refusal, and nobody prints
 // one.
 impl From<AllocError> for Fault {
+    ghost from_gives = { λ _ fault. fault ≡ NoMemory };
+
     fn from(_why: AllocError) -> Fault {
         Fault::NoMemory
     }
 }
 
 impl From<LayRefusal> for Fault {
+    ghost from_gives = { λ why fault. fault ≡ Lay why };
+
     fn from(why: LayRefusal) -> Fault {
         Fault::Lay { why }
     }
 }
 
 impl From<GridRefusal> for Fault {
+    ghost from_gives = { λ why fault. fault ≡ Grid why };
+
     fn from(why: GridRefusal) -> Fault {
         Fault::Grid { why }
     }
 }
 
 impl From<EntryRefusal> for Fault {
+    ghost from_gives = { λ why fault. fault ≡ Entry why };
+
     fn from(why: EntryRefusal) -> Fault {
         Fault::Entry { why }
     }
 }
 
 impl From<JudgeRefusal> for Fault {
+    ghost from_gives = { λ why fault. fault ≡ Judge why };
+
     fn from(why: JudgeRefusal) -> Fault {
         Fault::Judge { why }
     }
@@ -55,7 +67,9 @@ impl From<JudgeRefusal> for Fault {
 
 impl Fault {
     // The refusal's number and what it tells first; 0 and 0 where there is no memory. The C interface has numbers.
-    fn told(&self) -> (u8, u16) {
+    fn told(&self) -> (u8, u16)
+        ensures { result ≡ (number_of self.now, told_by self.now) }
+    {
         match self {
             Fault::NoMemory => (0, 0),
             Fault::Lay { why } => (why.number(), why.told()),
@@ -73,7 +87,7 @@ const NUMBER_UNIT: u32 = 65536;
 // One number for an outcome: the number of stops of a pass, or 65,536 times one more than the refusal's number, plus
 // what it tells first.
 pub(crate) fn code_of(outcome: Result<u16, Fault>) -> u32
-    ensures { MatchResult outcome (λ stops. result ≡ stops) (λ _. 65536 ≤ result) }
+    ensures { result ≡ code_told outcome }
 {
     match outcome {
         Ok(stops) => u32::from(stops),

@@ -16,7 +16,7 @@ use Rattle.sheet.specs.Calls.{Call, enter_carrier, enter_stop, enter_precedence,
 use Rattle.sheet.specs.Histories.{Enters}
 use Rattle.sheet.specs.declared.refusal.EntryRefusal.{EntryRefusal}
 use Rattle.session.specs.Rules.{largest_of}
-use Rattle.session.specs.Writing.{said_by}
+use Rattle.session.specs.Writing.{Stand, said_by}
 use Rattle.session.specs.declared.answer.Answer.{Answer}
 use Rattle.session.specs.declared.answer.Answer.TheVariants.{Accepted, Passed}
 use Rattle.session.specs.declared.answer.Refusal.{Refusal}
@@ -84,3 +84,5 @@ module _ (lanes : Lanes) (b b' : Book) (p : Pages) where
     pub answered : LineAnswered line answer
     pub value : r ≡ writing page 0 (said p answer)
     pub after : page' ≡ cond (is_ok r) (written page 0 (line_of (said p answer))) page
+    -- the session's own pages stand but for what a judging writes
+    pub stand : Stand p answer

@@ -1,5 +1,5 @@
 -- What a session means.
-use Rattle.std.specs.Prelude.{Result}
+use Rattle.std.specs.Prelude.{◌≡◌, ℕ, List, Result, replicate}
 use Rattle.judge.specs.Settling.{Pages}
 use Rattle.lane_yard.specs.Meaning.{lanes_of}
 use Rattle.plan.specs.Plans.{Lanes}
@@ -22,6 +22,10 @@ book_in s = sheet_book s.sheet
 -- what an answer says, with its pages
 abbrev pub said_in : Session → Result Answer Refusal → Reply
 said_in s a = said_by s.timetable s.ring a
+
+-- a page on which nothing is written yet: a 0 for each stop that a sheet may have
+abbrev pub Blank : List ℕ → Type 0
+Blank page = page ≡ replicate 1024 0
 
 -- its pages before and after
 abbrev pub pages_over : Session → Session → Pages

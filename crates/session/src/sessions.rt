@@ -11,7 +11,7 @@ ghost use Rattle.sheet.specs.Histories.History.{opening};
 ghost use Rattle.session.specs.Answers.{Answered, LineAnswered, OnPages, Replied, Ruled, entered_as};
 ghost use Rattle.session.specs.Refusals.{number_of, told_by};
 ghost use Rattle.session.specs.Replies.{EntryReplied, JudgingReplied, Lawful, LineReplied, setting_of};
-ghost use Rattle.session.specs.Sessions.{book_in, lanes_in, pages_over, said_in};
+ghost use Rattle.session.specs.Sessions.{Blank, book_in, lanes_in, pages_over, said_in};
 ghost use Rattle.session.specs.Writing.{Continues, ReplyWritten, Stand};
 ghost use Rattle.yard.specs.Rules.{gap_of};
 
@@ -55,10 +55,11 @@ fn entered(outcome: Result<u16, EntryRefusal>) -> Result<Answer, Refusal>
 }
 
 impl Session {
-    // Opens a sheet beside the yard.
+    // Opens a sheet beside the yard; both pages are blank.
     pub fn open(heap: Global, yard: LaneYard) -> Result<Session, AllocError>
         ensures opens { IfOk result (λ s. (book_in s ≡ opened) × (s.yard ≡ yard)) }
         ensures begins { IfOk result (λ s. Lawful (lanes_in s) opening (book_in s)) }
+        ensures blank { IfOk result (λ s. Blank s.timetable × Blank s.ring) }
     {
         let sheet = Sheet::open(heap)?;
         Ok(Session {
