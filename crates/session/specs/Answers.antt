@@ -1,5 +1,5 @@
 -- What a session answers to a line.
-use Rattle.std.specs.Prelude.{◌≡◌, ℕ, ◌<◌, ◌≤◌, cond, List, is_ok, Ok, Err, Result}
+use Rattle.std.specs.Prelude.{◌≡◌, ℕ, ◌<◌, ◌≤◌, List, Ok, Err, Result}
 use Rattle.judge.specs.Judged.{Judged, judging_of}
 use Rattle.judge.specs.declared.refusal.JudgeRefusal.{JudgeRefusal}
 use Rattle.judge.specs.Settling.{Pages, Within}
@@ -7,16 +7,14 @@ use Rattle.lines.specs.declared.entry.Entry.{Entry}
 use Rattle.lines.specs.declared.entry.Entry.TheVariants.{Carrier, Stop, Precedence, Strike, Judge, Lane}
 use Rattle.lines.specs.declared.refusal.LineRefusal.{LineRefusal}
 use Rattle.lines.specs.declared.refusal.LineRefusal.TheVariants.{UnknownKind, BadRule}
-use Rattle.lines.specs.declared.refusal.WriteRefusal.{WriteRefusal}
-use Rattle.lines.specs.Pages.{written}
-use Rattle.replies.specs.Answers.{Answer as Reply, line_of, writing}
+use Rattle.replies.specs.Answers.{Answer as Reply}
 use Rattle.plan.specs.Plans.{Lanes, Gaps}
 use Rattle.sheet.specs.Book.{Book}
 use Rattle.sheet.specs.Calls.{Call, enter_carrier, enter_stop, enter_precedence, strike_precedence}
 use Rattle.sheet.specs.Histories.{Enters}
 use Rattle.sheet.specs.declared.refusal.EntryRefusal.{EntryRefusal}
 use Rattle.session.specs.Rules.{largest_of}
-use Rattle.session.specs.Writing.{Stand, said_by}
+use Rattle.session.specs.Writing.{Stand, Written, said_by}
 use Rattle.session.specs.declared.answer.Answer.{Answer}
 use Rattle.session.specs.declared.answer.Answer.TheVariants.{Accepted, Passed}
 use Rattle.session.specs.declared.answer.Refusal.{Refusal}
@@ -78,11 +76,10 @@ module _ (lanes : Lanes) (b b' : Book) (p : Pages) where
   LineAnswered (Ok entry) a = Answered entry a
   LineAnswered (Err why) a = (a ≡ Err (Line why)) × (b' ≡ b)
 
-  -- the reply to a line stands at the front of the page, or the page is too short for it and stands
-  pub record Replied (line : Result Entry LineRefusal) (page page' : List ℕ) (r : Result ℕ WriteRefusal) : Type 0 where
+  -- the reply to a line, of n bytes, stands at the front of the page
+  pub record Replied (line : Result Entry LineRefusal) (page page' : List ℕ) (n : ℕ) : Type 0 where
     pub answer : Result Answer Refusal
     pub answered : LineAnswered line answer
-    pub value : r ≡ writing page 0 (said p answer)
-    pub after : page' ≡ cond (is_ok r) (written page 0 (line_of (said p answer))) page
+    pub on_page : Written page page' n (said p answer)
     -- the session's own pages stand but for what a judging writes
     pub stand : Stand p answer

@@ -1,10 +1,9 @@
 -- What a session's answer says with the session's pages, and what is written of it on a page.
-use Rattle.std.specs.Prelude.{◌≡◌, ℕ, cond, List, take, is_ok, Ok, Err, Result}
+use Rattle.std.specs.Prelude.{◌≡◌, ℕ, List, length, take, Ok, Err, Result}
 use Rattle.judge.specs.Settling.{Pages}
 use Rattle.judge.specs.declared.refusal.JudgeRefusal.TheVariants.{Ring as RingOf}
 use Rattle.lines.specs.Pages.{written}
-use Rattle.lines.specs.declared.refusal.WriteRefusal.{WriteRefusal}
-use Rattle.replies.specs.Answers.{Answer as Reply, accepted, passed, ring, refused, line_of, writing}
+use Rattle.replies.specs.Answers.{Answer as Reply, accepted, passed, ring, refused, line_of}
 use Rattle.plan.specs.Plans.{Lanes}
 use Rattle.sheet.specs.Book.{Book}
 use Rattle.sheet.specs.Histories.{History, ◌▹◌}
@@ -28,16 +27,16 @@ Stand p (Ok (Passed stops)) = p.ring_after ≡ p.ring
 Stand p (Err (Judge (RingOf long))) = p.timetable_after ≡ p.timetable
 Stand p a = (p.timetable_after ≡ p.timetable) × (p.ring_after ≡ p.ring)
 
--- a reply stands at the front of the page, or the page is too short for it and stands
-pub record Written (page page' : List ℕ) (r : Result ℕ WriteRefusal) (reply : Reply) : Type 0 where
-  pub value : r ≡ writing page 0 reply
-  pub after : page' ≡ cond (is_ok r) (written page 0 (line_of reply)) page
+-- a reply stands at the front of the page, with this length, and the rest of the page stands
+pub record Written (page page' : List ℕ) (n : ℕ) (reply : Reply) : Type 0 where
+  pub size : n ≡ length (line_of reply)
+  pub after : page' ≡ written page 0 (line_of reply)
 
 -- the line is replied, and the reply is written
-pub record ReplyWritten (lanes : Lanes) (b b' : Book) (line page page' : List ℕ) (r : Result ℕ WriteRefusal) : Type 0 where
+pub record ReplyWritten (lanes : Lanes) (b b' : Book) (line page page' : List ℕ) (n : ℕ) : Type 0 where
   pub reply : Reply
   pub replied : LineReplied lanes b line reply b'
-  pub on_page : Written page page' r reply
+  pub on_page : Written page page' n reply
 
 -- every history that led lawfully to b goes on with the line, and with every longer one of which its first 65 bytes are
 -- kept, and this reply

@@ -22,6 +22,7 @@ use lane_yard::yards::LaneYard;
 use lines::entry::{Entry, Input, Rule};
 use lines::read::read_entry;
 use lines::refusal::{LineRefusal, WriteRefusal};
+use replies::LONGEST_REPLY;
 use replies::reply::Reply;
 use sheet::limits::MOST_STOPS;
 use sheet::refusal::EntryRefusal;
@@ -181,18 +182,17 @@ impl Session {
         }
     }
 
-    // Answers a line of the sheet's input with its reply, at the front of the page, and says how long the reply is.
-    // A page of 8,198 bytes has room for every reply; a line whose reply finds no room has been acted on all the same.
-    pub fn reply(&mut self, line: &[u8], page: &mut [u8]) -> Result<usize, WriteRefusal>
+    // Answers a line of the sheet's input with its reply, at the front of the page, and says how long the reply is. The
+    // page has room for every reply, so that no line is refused once it has been acted on.
+    pub fn reply(&mut self, line: &[u8], page: &mut [u8; LONGEST_REPLY]) -> usize
         ensures replies { Replied (lanes_in self.old) (book_in self.old) (book_in self.new) (pages_over self.old self.new) (reading SheetInput line.now) page.old page.new result }
         ensures written { ReplyWritten (lanes_in self.old) (book_in self.old) (book_in self.new) line.now page.old page.new result }
-        ensures goes_on { IfOk result (λ n. Continues (lanes_in self.old) (book_in self.old) line.now (take n page.new) (book_in self.new)) }
-        ensures room { 8198 ≤ length page.old → IsOk result }
-        ensures within { IfOk result (λ n. n ≤ length page.old) }
+        ensures goes_on { Continues (lanes_in self.old) (book_in self.old) line.now (take result page.new) (book_in self.new) }
+        ensures within { result ≤ 8198 }
         ensures same { self.new.yard ≡ self.old.yard }
     {
         let answer = self.answer(line);
-        self.reply_to(answer).write(page, 0)
+        self.reply_to(answer).write(page, 0).unwrap()
     }
 }
 
