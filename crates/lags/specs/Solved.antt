@@ -50,9 +50,12 @@ pub record Looped (lags : List Lag) (nodes k : ℕ) (before after : List ℕ) : 
   pub stands : drop k after ≡ drop k before
   pub unsolvable : (α : ℕ → ℕ) → ¬ Solution (Listed lags) α
 
--- what the solver answers, and what it leaves in the arrivals and on the ring page; what the arrivals hold beside a ring
--- is left open
+-- an open outcome: nothing is promised of these numbers but that there are as many as before
+abbrev pub LeftOpen : List ℕ → List ℕ → Type 0
+LeftOpen before after = length after ≡ length before
+
+-- what the solver answers, and what it leaves in the arrivals and on the ring page
 abbrev pub Solved : List Lag → List ℕ → List ℕ → List ℕ → List ℕ → Result (Unit {0}) Unsolved → Type 0
 Solved lags α α' page page' (Ok _) = Fit lags (length α) (length page) × Earliest lags α' × (page' ≡ page)
-Solved lags α α' page page' (Err (RingOf k)) = Fit lags (length α) (length page) × Looped lags (length α) k page page'
+Solved lags α α' page page' (Err (RingOf k)) = Fit lags (length α) (length page) × Looped lags (length α) k page page' × LeftOpen α α'
 Solved lags α α' page page' (Err Unfit) = (¬ Fit lags (length α) (length page)) × (α' ≡ α) × (page' ≡ page)

@@ -8,11 +8,6 @@ use Rattle.lines.proofs.Placing.{placed_there}
 use Rattle.replies.specs.Answers.{Answer, accepted, passed, ring, refused, bytes_of, count, four, line_of, pair, writing}
 use Rattle.replies.proofs.Listing.{length_listed}
 
--- what follows from each value that was made
-pub made_by : {X Y : Type 0} (r : Result X Y) (P : X → Type 0) → ((x : X) → r ≡ Ok x → P x) → IfOk r P
-made_by (Ok x) P f = f x refl
-made_by (Err e) P f = tt
-
 -- how many digits a reply has
 abbrev pub size_of : Answer → ℕ
 size_of (accepted number) = 6
