@@ -1,6 +1,7 @@
 -- What is wrong with a lane that is refused, given the lane before it.
 use Rattle.std.specs.Prelude.{◌≡◌, ℕ, ◌<◌, ◌⊎◌, Some, Option}
 use Rattle.lane_yard.specs.declared.lane.Lane.{Lane}
+use Rattle.lane_yard.specs.Records.{Before}
 use Rattle.lane_yard.specs.declared.refusal.LayRefusal.{LayRefusal}
 use Rattle.lane_yard.specs.declared.refusal.LayRefusal.TheVariants as refusal
 use Rattle.explain.specs.declared.lane_fault.LaneFault.{LaneFault}
@@ -16,5 +17,5 @@ OutsideLimits lane why =
 
 abbrev pub FaultOf : Lane → Option Lane → LayRefusal → LaneFault → Type 0
 FaultOf lane before (refusal.BadLane index) why = OutsideLimits lane why
-FaultOf lane before (refusal.NotRising index) why = (previous : Lane) × (before ≡ Some previous) × (why ≡ fault.NotRising lane previous)
+FaultOf lane before (refusal.NotRising index) why = (previous : Lane) × (before ≡ Some previous) × (¬ Before previous lane) × (why ≡ fault.NotRising lane previous)
 FaultOf lane before refusal.TooManyLanes why = ⊥

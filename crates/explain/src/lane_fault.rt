@@ -63,10 +63,10 @@ pub(crate) fn lane_fault_of(lane: Lane, before: Option<Lane>, why: LayRefusal) -
 {
     match why {
         LayRefusal::BadLane { .. } => limit_fault(lane),
-        LayRefusal::NotRising { .. } => Some(LaneFault::NotRising {
-            lane,
-            before: before?,
-        }),
+        LayRefusal::NotRising { .. } => {
+            let before = before.filter(|before| before.places() >= lane.places())?;
+            Some(LaneFault::NotRising { lane, before })
+        }
         LayRefusal::TooManyLanes => None,
     }
 }

@@ -13,7 +13,7 @@ pub struct Lane {
 
 impl Lane {
     // The two places that it joins, by which lanes are ordered and found.
-    pub(crate) fn places(&self) -> (u16, u16)
+    pub fn places(&self) -> (u16, u16)
         ensures { result ≡ (self.now.from, self.now.to) }
     {
         (self.from, self.to)
