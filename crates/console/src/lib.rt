@@ -4,3 +4,5 @@
 pub mod files;
 pub mod input;
 pub mod judge_lines;
+#[cfg(test)]
+mod tests;

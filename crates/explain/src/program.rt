@@ -40,7 +40,7 @@ fn explain_fault(line: &[u8], why: LineRefusal, out: &mut impl Write) -> io::Res
 }
 
 impl TakesLines for Explainer {
-    fn take_line(&mut self, line: &[u8], out: &mut impl Write) -> io::Result<()> {
+    fn take_line<W: Write>(&mut self, line: &[u8], out: &mut W) -> io::Result<()> {
         self.lines = self.lines.saturating_add(1);
         write!(out, "{:>4}  ", self.lines)?;
         match read_entry(line, Input::Sheet) {

@@ -66,7 +66,7 @@ fn refused_index(why: LayRefusal) -> Option<u16> {
 }
 
 impl TakesLines for RefusedLine {
-    fn take_line(&mut self, line: &[u8], out: &mut impl Write) -> io::Result<()> {
+    fn take_line<W: Write>(&mut self, line: &[u8], out: &mut W) -> io::Result<()> {
         self.lines = self.lines.saturating_add(1);
         match (self.refusal, read_entry(line, Input::Yard)) {
             (Some(Refusal::Line { .. }), Err(why)) => {

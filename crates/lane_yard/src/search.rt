@@ -1,5 +1,5 @@
 // The search for a lane.
-ghost use Rattle.std.specs.Prelude.{◌≡◌};
+ghost use Rattle.std.specs.Prelude.{◌≡◌, ◌≤◌, length};
 ghost use Rattle.lane_yard.specs.Records.{Rising, time_of};
 
 use crate::lane::Lane;
@@ -11,7 +11,8 @@ const FEW: usize = 8;
 // By hand: the library's search, which goes by halves to the last lane, misses the bar of speed that this one meets.
 pub(crate) fn narrow(lanes: &[Lane], places: (u16, u16)) -> &[Lane]
     requires { Rising lanes.now }
-    ensures { time_of result.now places.0 places.1 ≡ time_of lanes.now places.0 places.1 }
+    ensures same { time_of result.now places.0 places.1 ≡ time_of lanes.now places.0 places.1 }
+    ensures few { length result.now ≤ 8 }
 {
     let mut part = lanes;
     while part.len() > FEW {

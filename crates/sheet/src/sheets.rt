@@ -48,6 +48,8 @@ impl Tables {
 
     // The two carriers of a precedence, which are two and not one.
     fn pair(&self, order: Order) -> Result<(&Carrier, &Carrier), EntryRefusal>
+        ensures first { IfOk result (λ p. slice_get self.now.carriers order.first ≡ Some p.0.now) }
+        ensures second { IfOk result (λ p. slice_get self.now.carriers order.second ≡ Some p.1.now) }
         ensures goal { IfOk result (λ p. (p.0.now.goal ≡ order.place) ↔ GoalOf (book_of self.now) order.first order.place) }
         ensures start { IfOk result (λ p. (p.1.now.start ≡ order.place) ↔ StartOf (book_of self.now) order.second order.place) }
         ensures checked { CheckedBy (pair_checks (book_of self.now) order.first order.second no_more) result }

@@ -8,4 +8,4 @@ pub returns : goal.returns
 returns c =
     let lanes = c.lanes.ensures in
     let told : c.map.result ≡ time_of c.narrow-part.result.now c.args.from c.args.to = search (rules, found c.narrow-part.result.now c.args.from c.args.to, missing c.narrow-part.result.now c.args.from c.args.to) in
-    rw (← lanes.value, told, c.narrow-part.ensures) (record { value = search rules; tells = lanes_listed _ lanes.lawful.1.1 c.args.from c.args.to })
+    rw (← lanes.value, told, c.narrow-part.ensures.same) (record { value = search rules; tells = lanes_listed _ lanes.lawful.1.1 c.args.from c.args.to })
