@@ -1,6 +1,5 @@
 -- A refusal of the sheet has its cause.
-use Rattle.std.proofs.Common.{◌≡◌, ℕ, ◌<◌, ◌≤◌, ◌⊎◌, ◌↔◌, List, length, map, get_or, Some, None, Option, is_some, IsTrue, IsSome, refl, inl, inr, rules, arith}
-use Rattle.std.specs.List.{slice_get}
+use Rattle.std.proofs.Common.{ℕ, ◌≤◌, ◌⊎◌, length, Some, None, Option, IsSome, refl, inl, inr, arith}
 use Rattle.std.proofs.lemmas.List.{length-map}
 use Rattle.std.proofs.lemmas.Option.{slice_get_within, get_or_from_slice_get, slice_get-get_or}
 use Rattle.lines.specs.declared.entry.Entry.{Entry}
@@ -8,7 +7,7 @@ use Rattle.lines.specs.declared.entry.Entry.TheVariants as entry
 use Rattle.sheet.specs.declared.records.Order.{Order}
 use Rattle.sheet.specs.declared.refusal.EntryRefusal.{EntryRefusal}
 use Rattle.sheet.specs.declared.refusal.EntryRefusal.TheVariants.{LimitReached, NotOnBothRoutes, FirstsGoalOrSecondsStart, AlreadyDecided, NothingToStrike}
-use Rattle.sheet.specs.Book.{Visits, Stands, StartOf, GoalOf, OnRoute, ReachedGoal, Decided}
+use Rattle.sheet.specs.Book.{Visits, StartOf, GoalOf, OnRoute, Decided}
 use Rattle.sheet.specs.Calls.{Refuses, Checks, checks, pair_checks, Standing, CarriersFull, StopsFull, PrecedencesFull, Unknown}
 use Rattle.sheet.specs.Calls.Checks.{check, no_more}
 use Rattle.sheet.specs.Calls.Call.{enter_carrier, enter_stop, enter_precedence, strike_precedence}

@@ -1,5 +1,5 @@
 -- Why the sheet refuses an entry: the cause names what the refusal only tells by its number.
-use Rattle.std.specs.Prelude.{◌≡◌, ℕ, ◌<◌, ◌≤◌, ◌⊎◌, length, slice_index_or}
+use Rattle.std.specs.Prelude.{◌≡◌, ℕ, ◌<◌, ◌≤◌, ◌⊎◌, length}
 use Rattle.lines.specs.declared.entry.Entry.{Entry}
 use Rattle.lines.specs.declared.entry.Entry.TheVariants as entry
 use Rattle.sheet.specs.declared.records.Order.{Order}

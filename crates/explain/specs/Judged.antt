@@ -1,5 +1,5 @@
 -- Why a sheet does not pass: the cause names what the refusal only tells by a number or two.
-use Rattle.std.specs.Prelude.{◌≡◌, ◌≢◌, ℕ, ◌<◌, List, length, Some, None, Option, slice_index_or}
+use Rattle.std.specs.Prelude.{◌≡◌, ◌≢◌, ℕ, ◌<◌, length, Some, None, Option, slice_index_or}
 use Rattle.sheet.specs.declared.records.Carrier.{Carrier}
 use Rattle.sheet.specs.declared.records.Order.{Order}
 use Rattle.sheet.specs.declared.records.Stop.{Stop}

@@ -1,5 +1,5 @@
 -- What is wrong with a lane that is refused, given the lane before it.
-use Rattle.std.specs.Prelude.{◌≡◌, ℕ, ◌<◌, ◌⊎◌, Some, Option}
+use Rattle.std.specs.Prelude.{◌≡◌, ◌<◌, ◌⊎◌, Some, Option}
 use Rattle.lane_yard.specs.declared.lane.Lane.{Lane}
 use Rattle.lane_yard.specs.Records.{Before}
 use Rattle.lane_yard.specs.declared.refusal.LayRefusal.{LayRefusal}
