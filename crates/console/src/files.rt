@@ -6,11 +6,11 @@ ghost use Rattle.console.specs.Loading.{Loaded};
 
 use crate::input::{CHUNK, too_long};
 use lane_yard::yards::LaneYard;
-use session::answer::Refusal;
 use std::fs::File;
 use std::io;
 use std::io::Read;
 use yard_file::files::YardFile;
+use yard_file::refusal::FileRefusal;
 
 // Takes the file to its end. A loop of its own, as that over the lines: nothing would be known of what a closure changed,
 // had the two one loop that calls it.
@@ -30,7 +30,7 @@ fn feed<R: Read>(file: &mut R, read: &mut YardFile) -> io::Result<()>
 
 // Lays the lanes of `yard.hex` in the current folder. A file that cannot be read counts as empty.
 // The error of the outer result ends a program; that of the inner one is the one reply of the program.
-pub fn load_yard(rt: &HostRuntime, yard: &mut LaneYard) -> io::Result<Result<(), Refusal>>
+pub fn load_yard(rt: &HostRuntime, yard: &mut LaneYard) -> io::Result<Result<(), FileRefusal>>
     ensures loaded { IfOk result (λ laid. Loaded yard.old yard.new laid) }
     ensures stands { OnErr result (yard.new ≡ yard.old) }
 {
@@ -40,5 +40,5 @@ pub fn load_yard(rt: &HostRuntime, yard: &mut LaneYard) -> io::Result<Result<(),
     {
         read = YardFile::new(rt.alloc())?;
     }
-    Ok(read.lay(yard).map_err(Refusal::from))
+    Ok(read.lay(yard))
 }

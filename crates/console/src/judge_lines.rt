@@ -3,18 +3,18 @@ ghost use Rattle.std.specs.Prelude.{[], ◌∷◌, ◌++◌, OnOk};
 ghost use Rattle.std.specs.Io.KnownBytes.{Appends};
 ghost use Rattle.lane_yard.specs.Meaning.{lanes_of};
 ghost use Rattle.replies.specs.Answers.{line_of, refused};
-ghost use Rattle.session.specs.Refusals.{number_of, told_by};
+ghost use Rattle.yard_file.specs.Refusals.{number_of, told_by};
 ghost use Rattle.console.specs.Replying.{AllReplied, Replies};
 
 use crate::files::load_yard;
 use crate::input::{TakesLines, take_lines};
 use lane_yard::yards::LaneYard;
 use replies::{LONGEST_REPLY, REFUSAL_REPLY};
-use session::answer::Refusal;
-use session::sessions::{Session, write_refusal};
+use session::sessions::Session;
 use std::alloc::Global;
 use std::io;
 use std::io::{BufWriter, Read, Write};
+use yard_file::refusal::FileRefusal;
 
 // Writes a reply and its newline.
 fn put_reply<W: Write>(reply: &[u8], out: &mut W) -> io::Result<()>
@@ -60,11 +60,11 @@ pub fn answer_lines<R: Read, W: Write>(
 }
 
 // Writes the one reply to a yard that is refused, from a page of fixed size too.
-fn refuse_yard<W: Write>(refusal: Refusal, out: &mut W) -> io::Result<()>
-    ensures { OnOk result (Appends (W.contents out.old) (W.contents out.new) (line_of (refused (number_of refusal) (told_by refusal).0 (told_by refusal).1) ++ 10 ∷ [])) }
+fn refuse_yard<W: Write>(refusal: FileRefusal, out: &mut W) -> io::Result<()>
+    ensures { OnOk result (Appends (W.contents out.old) (W.contents out.new) (line_of (refused (number_of refusal) (told_by refusal) 0) ++ 10 ∷ [])) }
 {
     let mut page = [0; REFUSAL_REPLY];
-    let count = write_refusal(refusal, &mut page).unwrap();
+    let count = refusal.write(&mut page).unwrap();
     put_reply(&page[..count], out)
 }
 

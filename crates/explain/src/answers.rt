@@ -65,7 +65,7 @@ impl Site<'_> {
                 let cause = self.judge_cause_of(why);
                 writeln!(out, "{}", Refused { number, cause })
             }
-            Refusal::Line { .. } | Refusal::Lay { .. } => writeln!(out, "REFUSED ({number})"),
+            Refusal::Line { .. } => writeln!(out, "REFUSED ({number})"),
         }
     }
 

@@ -8,16 +8,16 @@ use lane_yard::refusal::LayRefusal;
 use lane_yard::yards::{LaneYard, MOST_LANES};
 use lines::entry::{Entry, Input};
 use lines::read::read_entry;
-use session::answer::Refusal;
 use std::fs::File;
 use std::io::Write;
 use std::{fmt, io};
+use yard_file::refusal::FileRefusal;
 
 // What a second reading of the file looks for: the line that it was refused for.
 #[derive(Drop)]
 struct RefusedLine {
     // The refusal, until its line is found.
-    refusal: Option<Refusal>,
+    refusal: Option<FileRefusal>,
     // The number of lines so far, and the lane of the last one.
     lines: u64,
     before: Option<Lane>,
@@ -69,12 +69,12 @@ impl TakesLines for RefusedLine {
     fn take_line<W: Write>(&mut self, line: &[u8], out: &mut W) -> io::Result<()> {
         self.lines = self.lines.saturating_add(1);
         match (self.refusal, read_entry(line, Input::Yard)) {
-            (Some(Refusal::Line { .. }), Err(why)) => {
+            (Some(FileRefusal::Line { .. }), Err(why)) => {
                 let number = why.number();
                 let cause = fault_of(line, Input::Yard, why);
                 self.write_found(line, &Refused { number, cause }, out)
             }
-            (Some(Refusal::Lay { why }), Ok(Entry::Lane { from, to, time })) => {
+            (Some(FileRefusal::Lay { why }), Ok(Entry::Lane { from, to, time })) => {
                 self.take_lane(line, Lane { from, to, time }, why, out)
             }
             _ => Ok(()),
@@ -95,7 +95,7 @@ impl fmt::Display for TooManyLanes {
 // Writes which line of the file is refused, and why.
 pub(crate) fn write_refused_yard(
     rt: &HostRuntime,
-    refusal: Refusal,
+    refusal: FileRefusal,
     out: &mut impl Write,
 ) -> io::Result<()> {
     let mut search = RefusedLine {
@@ -111,7 +111,7 @@ pub(crate) fn write_refused_yard(
     };
     let number = refusal.number();
     let cause = match refusal {
-        Refusal::Lay {
+        FileRefusal::Lay {
             why: LayRefusal::TooManyLanes,
         } => Some(TooManyLanes),
         _ => None,

@@ -18,7 +18,7 @@ use Rattle.session.specs.Writing.{Stand, Written, said_by}
 use Rattle.session.specs.declared.answer.Answer.{Answer}
 use Rattle.session.specs.declared.answer.Answer.TheVariants.{Accepted, Passed}
 use Rattle.session.specs.declared.answer.Refusal.{Refusal}
-use Rattle.session.specs.declared.answer.Refusal.TheVariants.{Line, Entry as OfEntry, Judge as OfJudge, Lay}
+use Rattle.session.specs.declared.answer.Refusal.TheVariants.{Line, Entry as OfEntry, Judge as OfJudge}
 use Rattle.yard.specs.Rules.{gap_of, gaps_of}
 use Rattle.yard.specs.declared.rules.Rule.{Rule}
 
@@ -29,7 +29,6 @@ OnPages (Ok (Passed stops)) = stops ≤ 1024
 OnPages (Err (Line why)) = Unit {0}
 OnPages (Err (OfEntry why)) = Unit {0}
 OnPages (Err (OfJudge why)) = Within 1024 1024 (Err why)
-OnPages (Err (Lay why)) = Unit {0}
 
 -- what comes of an entry or a striking
 abbrev pub entered_as : Result ℕ EntryRefusal → Result Answer Refusal

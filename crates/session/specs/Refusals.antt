@@ -1,27 +1,17 @@
 -- The number of each refusal, and what it tells.
 use Rattle.std.specs.Prelude.{ℕ}
 use Rattle.judge.specs.Refusals as judging
-use Rattle.lane_yard.specs.Refusals as laying
 use Rattle.lines.specs.Refusals as reading
 use Rattle.sheet.specs.Refusals as entering
 use Rattle.session.specs.declared.answer.Refusal.{Refusal}
-use Rattle.session.specs.declared.answer.Refusal.TheVariants.{Line, Entry, Judge, Lay}
-use Rattle.yard_file.specs.declared.refusal.FileRefusal.{FileRefusal}
-use Rattle.yard_file.specs.declared.refusal.FileRefusal.TheVariants as file
+use Rattle.session.specs.declared.answer.Refusal.TheVariants.{Line, Entry, Judge}
 
 abbrev pub number_of : Refusal → ℕ
 number_of (Line why) = reading.number_of why
 number_of (Entry why) = entering.number_of why
 number_of (Judge why) = judging.number_of why
-number_of (Lay why) = laying.number_of why
 
 abbrev pub told_by : Refusal → ℕ × ℕ
 told_by (Line why) = (reading.told_by why, 0)
 told_by (Entry why) = (0, 0)
 told_by (Judge why) = judging.told_by why
-told_by (Lay why) = (laying.told_by why, 0)
-
--- the refusal of the file of a yard, as that of a line or of a list of lanes
-abbrev pub file_refused : FileRefusal → Refusal
-file_refused (file.Line why) = Line why
-file_refused (file.Lay why) = Lay why

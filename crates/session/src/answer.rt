@@ -3,18 +3,16 @@ ghost use Rattle.std.specs.Prelude.{◌≡◌};
 ghost use Rattle.lines.specs.declared.refusal.LineRefusal.TheVariants.{BadRule};
 ghost use Rattle.replies.specs.Answers.{refused};
 ghost use Rattle.replies.specs.Replies.{answer_of};
-ghost use Rattle.session.specs.Refusals.{file_refused, number_of, told_by};
-ghost use Rattle.session.specs.declared.answer.Refusal.TheVariants.{Line, Entry, Judge, Lay};
+ghost use Rattle.session.specs.Refusals.{number_of, told_by};
+ghost use Rattle.session.specs.declared.answer.Refusal.TheVariants.{Line, Entry, Judge};
 
 use judge::refusal::JudgeRefusal;
-use lane_yard::refusal::LayRefusal;
 use lines::refusal::LineRefusal;
 use replies::reply::Reply;
 use sheet::refusal::EntryRefusal;
 use yard::refusal::GapRefusal;
-use yard_file::refusal::FileRefusal;
 
-// Why a line, or the file of the yard, is refused.
+// Why a line is refused.
 #[derive(Clone, Copy, PartialEq, Eq, Debug)]
 pub enum Refusal {
     // The line cannot be read.
@@ -23,8 +21,6 @@ pub enum Refusal {
     Entry { why: EntryRefusal },
     // The sheet does not pass; for a ring, the session's ring page has its stops.
     Judge { why: JudgeRefusal },
-    // The lanes cannot be laid.
-    Lay { why: LayRefusal },
 }
 
 impl Refusal {
@@ -36,7 +32,6 @@ impl Refusal {
             Refusal::Line { why } => why.number(),
             Refusal::Entry { why } => why.number(),
             Refusal::Judge { why } => why.number(),
-            Refusal::Lay { why } => why.number(),
         }
     }
 
@@ -48,7 +43,6 @@ impl Refusal {
             Refusal::Line { why } => (why.told(), 0),
             Refusal::Entry { .. } => (0, 0),
             Refusal::Judge { why } => why.told(),
-            Refusal::Lay { why } => (why.told(), 0),
         }
     }
 }
@@ -74,26 +68,6 @@ impl From<JudgeRefusal> for Refusal {
 
     fn from(why: JudgeRefusal) -> Refusal {
         Refusal::Judge { why }
-    }
-}
-
-impl From<LayRefusal> for Refusal {
-    ghost from_gives = { λ why refusal. refusal ≡ Lay why };
-
-    fn from(why: LayRefusal) -> Refusal {
-        Refusal::Lay { why }
-    }
-}
-
-// A file of a yard is refused as a line or a list of lanes is.
-impl From<FileRefusal> for Refusal {
-    ghost from_gives = { λ why refusal. refusal ≡ file_refused why };
-
-    fn from(why: FileRefusal) -> Refusal {
-        match why {
-            FileRefusal::Line { why } => Refusal::Line { why },
-            FileRefusal::Lay { why } => Refusal::Lay { why },
-        }
     }
 }
 

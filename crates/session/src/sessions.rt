@@ -1,15 +1,13 @@
 // The session and its calls.
-ghost use Rattle.std.specs.Prelude.{◌≡◌, ◌<◌, ◌≤◌, IsTrue, IsOk, if◌then◌else◌, length, take, is_ok, IfOk};
+ghost use Rattle.std.specs.Prelude.{◌≡◌, ◌≤◌, IsTrue, take, IfOk};
 ghost use Rattle.lines.specs.Entries.{Lawful as LawfulEntry, has, kind_of};
-ghost use Rattle.lines.specs.Pages.{written};
 ghost use Rattle.lines.specs.Reading.{reading};
 ghost use Rattle.lines.specs.declared.entry.Input.TheVariants.{Sheet as SheetInput};
-ghost use Rattle.replies.specs.Answers.{line_of, refused, writing};
+ghost use Rattle.replies.specs.Answers.{line_of};
 ghost use Rattle.replies.specs.Replies.{answer_of};
 ghost use Rattle.sheet.specs.Book.{opened};
 ghost use Rattle.sheet.specs.Histories.History.{opening};
 ghost use Rattle.session.specs.Answers.{Answered, LineAnswered, OnPages, Replied, Ruled, entered_as};
-ghost use Rattle.session.specs.Refusals.{number_of, told_by};
 ghost use Rattle.session.specs.Replies.{EntryReplied, JudgingReplied, Lawful, LineReplied, setting_of};
 ghost use Rattle.session.specs.Sessions.{Blank, book_in, lanes_in, pages_over, said_in};
 ghost use Rattle.session.specs.Writing.{Continues, ReplyWritten, Stand};
@@ -21,7 +19,7 @@ use judge::refusal::JudgeRefusal;
 use lane_yard::yards::LaneYard;
 use lines::entry::{Entry, Input, Rule};
 use lines::read::read_entry;
-use lines::refusal::{LineRefusal, WriteRefusal};
+use lines::refusal::LineRefusal;
 use replies::LONGEST_REPLY;
 use replies::reply::Reply;
 use sheet::limits::MOST_STOPS;
@@ -194,14 +192,4 @@ impl Session {
         let answer = self.answer(line);
         self.reply_to(answer).write(page, 0).unwrap()
     }
-}
-
-// Writes the reply of a refusal to the front of the page, which has room for it if it has 10 bytes.
-pub fn write_refusal(refusal: Refusal, page: &mut [u8]) -> Result<usize, WriteRefusal>
-    ensures value { result ≡ writing page.old 0 (refused (number_of refusal) (told_by refusal).0 (told_by refusal).1) }
-    ensures after { page.new ≡ (if is_ok result then written page.old 0 (line_of (refused (number_of refusal) (told_by refusal).0 (told_by refusal).1)) else page.old) }
-    ensures room { 10 ≤ length page.old → IsOk result }
-    ensures within { IfOk result (λ n. n ≤ length page.old) }
-{
-    Reply::from(refusal).write(page, 0)
 }
