@@ -20,10 +20,6 @@ module _ (stops : List Stop) (legs : List Leg) (precedences : List Precedence) (
   abbrev pub AllDecided : Type 0
   AllDecided = (s t : ℕ) → ¬ OpenMeeting stops leads s t
 
-  -- no two stops are set head on
-  abbrev pub NoneOpposed : Type 0
-  NoneOpposed = LowestOpposed stops legs leads precedences (length precedences) None
-
   -- why precedences are refused: the lowest meeting that is not decided, then the lowest two stops that are set head on
   abbrev pub RefusedBy : JudgeRefusal → Type 0
   RefusedBy PageTooShort = ⊥
@@ -38,7 +34,7 @@ pub record PrecedencesClear (stops : List Stop) (legs : List Leg) (precedences :
   pub leads : List Bool
   pub marks : Leads precedences (length precedences) leads
   pub decided : AllDecided stops legs precedences leads
-  pub none_opposed : NoneOpposed stops legs precedences leads
+  pub none_opposed : LowestOpposed stops legs leads precedences (length precedences) None
 
 -- or they are refused
 pub record PrecedencesRefused (stops : List Stop) (legs : List Leg) (precedences : List Precedence) (e : JudgeRefusal) : Type 0 where
