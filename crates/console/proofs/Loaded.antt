@@ -1,5 +1,5 @@
 -- What the laying of a file answers, as a session's refusal.
-use Rattle.std.proofs.Common.{ℕ, List, Ok, Err, Result}
+use Rattle.std.proofs.Common.{ℕ, List, Ok, Err, IsOk, OnOk, Result}
 use Rattle.lane_yard.specs.declared.yards.LaneYard.{LaneYard}
 use Rattle.session.specs.Refusals.{file_refused}
 use Rattle.session.specs.declared.answer.Refusal.{Refusal}
@@ -16,3 +16,7 @@ pub lines_laid : (lines : List (List ℕ)) (yard yard' : LaneYard) (r : Result (
 lines_laid lines yard yard' (Ok done) laid = laid
 lines_laid lines yard yard' (Err (Line why)) laid = laid
 lines_laid lines yard yard' (Err (Lay why)) laid = laid
+
+pub on_ok : {E : Type 0} (r : Result (Unit {0}) E) (P : Type 0) → IsOk r → OnOk r P → P
+on_ok (Ok done) P is p = p
+on_ok (Err why) P is p = cc
