@@ -2,10 +2,11 @@
 ghost use Rattle.std.specs.Prelude.{◌≡◌, ℕ, List, ◌++◌, IfOk, OnErr, OnOk};
 ghost use Rattle.std.specs.Io.KnownBytes.{Consumes, IsAtEnd};
 ghost use Rattle.yard_file.specs.Files.{HasRead};
-ghost use Rattle.console.specs.Loading.{Loaded};
+ghost use Rattle.console.specs.Loading.{FileLaid, SomeLinesLaid, WholeOrNone};
 
 use crate::input::{CHUNK, too_long};
 use lane_yard::yards::LaneYard;
+use std::alloc::{AllocError, Global};
 use std::fs::File;
 use std::io;
 use std::io::Read;
@@ -28,17 +29,40 @@ fn feed<R: Read>(file: &mut R, read: &mut YardFile) -> io::Result<()>
     Err(too_long())
 }
 
-// Lays the lanes of `yard.hex` in the current folder. A file that cannot be read counts as empty.
-// The error of the outer result ends a program; that of the inner one is the one reply of the program.
-pub fn load_yard(rt: &HostRuntime, yard: &mut LaneYard) -> io::Result<Result<(), FileRefusal>>
-    ensures loaded { IfOk result (λ laid. Loaded yard.old yard.new laid) }
-    ensures stands { OnErr result (yard.new ≡ yard.old) }
+// What is read of a file. A file that cannot be read counts as empty, also where reading fails after some of it was read.
+fn read_whole<R: Read + Drop>(heap: Global, file: io::Result<R>) -> Result<YardFile, AllocError>
+    ensures { IfOk result (λ read. WholeOrNone R.remaining file read) }
 {
-    let mut read = YardFile::new(rt.alloc())?;
-    if let Ok(mut file) = File::open(rt, "yard.hex")
+    let mut read = YardFile::new(heap)?;
+    if let Ok(mut file) = file
         && feed(&mut file, &mut read).is_err()
     {
-        read = YardFile::new(rt.alloc())?;
+        read = YardFile::new(heap)?;
     }
+    Ok(read)
+}
+
+// Lays the lanes of a file, which counts as empty where it cannot be read.
+// The error of the outer result ends a program; that of the inner one is the one reply of the program.
+pub fn lay_file<R: Read + Drop>(
+    heap: Global,
+    file: io::Result<R>,
+    yard: &mut LaneYard,
+) -> Result<Result<(), FileRefusal>, AllocError>
+    ensures laid { IfOk result (λ laid. FileLaid R.remaining file yard.old yard.new laid) }
+    ensures stands { OnErr result (yard.new ≡ yard.old) }
+{
+    let read = read_whole(heap, file)?;
     Ok(read.lay(yard))
+}
+
+// Lays the lanes of `yard.hex` in the current folder, as `lay_file` does.
+pub fn load_yard(
+    rt: &HostRuntime,
+    yard: &mut LaneYard,
+) -> Result<Result<(), FileRefusal>, AllocError>
+    ensures laid { IfOk result (λ laid. SomeLinesLaid yard.old yard.new laid) }
+    ensures stands { OnErr result (yard.new ≡ yard.old) }
+{
+    lay_file(rt.alloc(), File::open(rt, "yard.hex"), yard)
 }
