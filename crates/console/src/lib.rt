@@ -4,5 +4,3 @@
 pub mod files;
 pub mod input;
 pub mod judge_lines;
-#[cfg(test)]
-mod tests;

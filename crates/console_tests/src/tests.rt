@@ -1,6 +1,6 @@
 // Inputs and files in memory.
-use crate::files::lay_file;
-use crate::judge_lines::answer_lines;
+use console::files::lay_file;
+use console::judge_lines::answer_lines;
 use lane_yard::yards::LaneYard;
 use std::io;
 use std::io::Error;
