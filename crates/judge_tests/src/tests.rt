@@ -27,22 +27,21 @@ fn yard_of(rt: &impl Abort, heap: Global, lanes: &[(u16, u16, u16)]) -> Result<L
     Ok(yard)
 }
 
-// The worked yard, as a lane yard: lanes both ways, 0-1 of 3 ticks, 1-2 of 2, 1-4 of 5, 2-3 of 4.
+// The lanes of the worked yard: both ways, 0-1 of 3 ticks, 1-2 of 2, 1-4 of 5, 2-3 of 4.
+const WORKED_LANES: [(u16, u16, u16); 8] = [
+    (0, 1, 3),
+    (1, 0, 3),
+    (1, 2, 2),
+    (1, 4, 5),
+    (2, 1, 2),
+    (2, 3, 4),
+    (3, 2, 4),
+    (4, 1, 5),
+];
+
+// The worked yard, as a lane yard.
 fn worked_yard(rt: &impl Abort, heap: Global) -> Result<LaneYard, Fail> {
-    yard_of(
-        rt,
-        heap,
-        &[
-            (0, 1, 3),
-            (1, 0, 3),
-            (1, 2, 2),
-            (1, 4, 5),
-            (2, 1, 2),
-            (2, 3, 4),
-            (3, 2, 4),
-            (4, 1, 5),
-        ],
-    )
+    yard_of(rt, heap, &WORKED_LANES)
 }
 
 // The worked sheet: carrier 0 from 0 by 1 and 2 to 3, carrier 1 from 2 by 1 to 4, which goes first at 2 and at 1.
@@ -50,8 +49,8 @@ fn worked_sheet(rt: &impl Abort, heap: Global) -> Result<Sheet, Fail> {
     let mut sheet = Sheet::open(heap)?;
     assert_eq!(rt; sheet.enter_carrier(0, 3), Ok(0));
     assert_eq!(rt; sheet.enter_carrier(2, 4), Ok(1));
-    let stops = [(0, 1), (0, 2), (0, 3), (1, 1), (1, 4)];
-    for ((carrier, place), number) in stops.into_iter().zip(2..) {
+    const STOPS: [(u8, u16); 5] = [(0, 1), (0, 2), (0, 3), (1, 1), (1, 4)];
+    for ((carrier, place), number) in STOPS.into_iter().zip(2..) {
         assert_eq!(rt; sheet.enter_stop(carrier, place), Ok(number));
     }
     assert_eq!(rt; sheet.enter_precedence(1, 0, 2), Ok(1));

@@ -26,22 +26,21 @@ fn yard_of(rt: &impl Abort, heap: Global, lanes: &[(u16, u16, u16)]) -> Result<A
     Ok(AnyYard::Lanes { yard })
 }
 
-// The worked yard, as a yard of either kind: lanes both ways, 0-1 of 3 ticks, 1-2 of 2, 1-4 of 5, 2-3 of 4.
+// The lanes of the worked yard: both ways, 0-1 of 3 ticks, 1-2 of 2, 1-4 of 5, 2-3 of 4.
+const WORKED_LANES: [(u16, u16, u16); 8] = [
+    (0, 1, 3),
+    (1, 0, 3),
+    (1, 2, 2),
+    (1, 4, 5),
+    (2, 1, 2),
+    (2, 3, 4),
+    (3, 2, 4),
+    (4, 1, 5),
+];
+
+// The worked yard, as a yard of either kind.
 fn worked_yard(rt: &impl Abort, heap: Global) -> Result<AnyYard, Fail> {
-    yard_of(
-        rt,
-        heap,
-        &[
-            (0, 1, 3),
-            (1, 0, 3),
-            (1, 2, 2),
-            (1, 4, 5),
-            (2, 1, 2),
-            (2, 3, 4),
-            (3, 2, 4),
-            (4, 1, 5),
-        ],
-    )
+    yard_of(rt, heap, &WORKED_LANES)
 }
 
 // The triangle: lanes 0 to 1, 1 to 2 and 2 to 0 of 1 tick.

@@ -124,7 +124,7 @@ mod tests {
         let mut yard = GridYard::new(rt.alloc())?;
         assert_eq!(rt; yard.travel_time(0, 1), None);
         assert_eq!(rt; yard.set_out(plan(1, 3, 2, 1), &[0]), Ok(()));
-        let row = [
+        const ROW: [(u16, u16, Option<u16>); 7] = [
             (0, 1, Some(2)),
             (1, 0, Some(2)),
             (1, 2, Some(2)),
@@ -133,15 +133,15 @@ mod tests {
             (2, 3, None),
             (1, 1, None),
         ];
-        for (from, to, time) in row {
+        for (from, to, time) in ROW {
             assert_eq!(rt; yard.travel_time(from, to), time);
         }
         assert_eq!(rt; yard.set_out(plan(1, 3, 2, 1), &[2]), Ok(()));
-        for (from, to, _) in row {
+        for (from, to, _) in ROW {
             assert_eq!(rt; yard.travel_time(from, to), None);
         }
         assert_eq!(rt; yard.set_out(plan(2, 3, 4, 7), &[0]), Ok(()));
-        let block = [
+        const BLOCK: [(u16, u16, Option<u16>); 8] = [
             (1, 2, Some(4)),
             (1, 4, Some(7)),
             (4, 1, Some(7)),
@@ -151,7 +151,7 @@ mod tests {
             (0, 4, None),
             (3, 6, None),
         ];
-        for (from, to, time) in block {
+        for (from, to, time) in BLOCK {
             assert_eq!(rt; yard.travel_time(from, to), time);
         }
         Ok(())
@@ -239,7 +239,7 @@ mod tests {
         words[63] = 0x8000_0000_0000_0000;
         let mut yard = GridYard::new(rt.alloc())?;
         assert_eq!(rt; yard.set_out(plan(64, 64, 3, 5), &words), Ok(()));
-        let closed = [
+        const CLOSED: [(u16, u16); 9] = [
             (0, 1),
             (1, 0),
             (0, 64),
@@ -250,15 +250,15 @@ mod tests {
             (4094, 4095),
             (4031, 4095),
         ];
-        for (from, to) in closed {
+        for (from, to) in CLOSED {
             assert_eq!(rt; yard.travel_time(from, to), None);
         }
-        let along = [(1, 2), (61, 62), (65, 66), (126, 127), (4093, 4094)];
-        for (from, to) in along {
+        const ALONG: [(u16, u16); 5] = [(1, 2), (61, 62), (65, 66), (126, 127), (4093, 4094)];
+        for (from, to) in ALONG {
             assert_eq!(rt; yard.travel_time(from, to), Some(3));
         }
-        let across = [(1, 65), (62, 126), (127, 191), (128, 192), (4030, 4094)];
-        for (from, to) in across {
+        const ACROSS: [(u16, u16); 5] = [(1, 65), (62, 126), (127, 191), (128, 192), (4030, 4094)];
+        for (from, to) in ACROSS {
             assert_eq!(rt; yard.travel_time(from, to), Some(5));
         }
         Ok(())
