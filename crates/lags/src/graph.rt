@@ -33,17 +33,17 @@ fn is_allowed(nodes: usize, lag: Lag) -> bool
 
 // Raises the arrival where the lag ends, if it is too early for the lag, notes the lag's number as what raised it, and
 // says whether it did. Times go by `as`, since no `From` leads from u64 to i64 or back; it loses nothing, as is proved.
-fn raise(lag: Lag, number: usize, arrivals: &mut [u64], parents: &mut [usize; MOST_NODES]) -> bool
-    requires inside { Inside (length arrivals.old) lag }
+fn raise(lag: &Lag, number: usize, arrivals: &mut [u64], parents: &mut [usize; MOST_NODES]) -> bool
+    requires inside { Inside (length arrivals.old) lag.now }
     requires few { length arrivals.old ≤ 1024 }
     requires low { Low arrivals.old (2 ^ 60) }
     ensures test { result
-        ≡ int_lt (pos (at arrivals.old lag.to)) (pos (at arrivals.old lag.from) +ℤ lag.weight) }
+        ≡ int_lt (pos (at arrivals.old lag.now.to)) (pos (at arrivals.old lag.now.from) +ℤ lag.now.weight) }
     ensures arrives { arrivals.new
-        ≡ (if result then slice_set arrivals.old lag.to (after (at arrivals.old lag.from) lag.weight)
+        ≡ (if result then slice_set arrivals.old lag.now.to (after (at arrivals.old lag.now.from) lag.now.weight)
         else arrivals.old) }
     ensures parent { parents.new
-        ≡ (if result then slice_set parents.old lag.to number else parents.old) }
+        ≡ (if result then slice_set parents.old lag.now.to number else parents.old) }
 {
     let (from, to) = (usize::from(lag.from), usize::from(lag.to));
     let reach = arrivals[from] as i64 + i64::from(lag.weight);
@@ -94,7 +94,7 @@ impl<'a> Graph<'a> {
     {
         let mut raised = None;
         for (number, lag) in self.lags.iter().enumerate() {
-            if raise(*lag, number, arrivals, parents) {
+            if raise(lag, number, arrivals, parents) {
                 raised = Some(lag.to);
             }
         }
