@@ -18,9 +18,10 @@ pub record EndCount (lags : List Lag) (m : ℕ) : Type 0 where
   pub marked : (v : ℕ) → IsTrue (slice_index_or marks v false) ↔ End lags v
   pub many : m ≡ count_by (λ b. b) marks
 
--- the marked nodes are those where the first i lags end
-pub record Marking (lags : List Lag) (i : ℕ) (marks : List Bool) : Type 0 where
+-- the marked nodes are those where the first i lags end, n of them
+pub record Marking (lags : List Lag) (i : ℕ) (marks : List Bool) (n : ℕ) : Type 0 where
   pub marked : (v : ℕ) → IsTrue (slice_index_or marks v false) ↔ End (take i lags) v
+  pub many : n ≡ count_by (λ b. b) marks
   pub size : length marks ≡ 1024
 
 -- one more round than the lags end at nodes was made, each raised something, and the last of them raised v last
@@ -70,10 +71,6 @@ module _ (lags : List Lag) (p : ℕ → ℕ) where
     pub node : ℕ
     pub traced : Traced a when node xs node
     pub some : 0 < length xs
-
--- the nodes are a way back to where it began, along some parents
-abbrev pub Cycle : List Lag → List ℕ → Type 0
-Cycle lags xs = (p : ℕ → ℕ) × ParentCycle lags p xs
 
 -- the places have for each node where it stands in xs, and none for every other
 pub record Placed (xs : List ℕ) (places : List (Option ℕ)) : Type 0 where

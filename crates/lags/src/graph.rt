@@ -1,11 +1,12 @@
 // The graph of the lags, and the rounds through it, which raise arrivals until every lag is kept. The arrays have fixed
 // sizes, since solving takes no memory.
-ghost use Rattle.std.specs.Prelude.{◌≡◌, ℕ, ◌+◌, ◌^◌, ◌<◌, ◌≤◌, ◌↔◌, length, pos, ◌+ℤ◌, All, IsTrue, IsSome, IfSome, MatchOption, if◌then◌else◌, int_lt, slice_set};
+ghost use Rattle.std.specs.Prelude.{◌≡◌, ℕ, ◌+◌, ◌^◌, ◌<◌, ◌≤◌, ◌↔◌, [], drop, length, pos, ◌+ℤ◌, All, IsTrue, IsSome, IfSome, MatchOption, if◌then◌else◌, int_lt, slice_set};
 ghost use Rattle.lags.specs.Progress.{Low, Round};
-ghost use Rattle.lags.specs.Solved.{Allowed, Earliest, Inside, at};
+ghost use Rattle.lags.specs.Solved.{Allowed, Earliest, Inside, Looped, at};
 ghost use Rattle.lags.specs.Times.{after};
-ghost use Rattle.lags.specs.Traced.{Cycle, EndCount, Overrun, ParentCycle};
+ghost use Rattle.lags.specs.Traced.{EndCount, Overrun, ParentCycle};
 
+use crate::rings::write_from_lowest;
 use crate::{Lag, MOST_LAGS, MOST_NODES};
 use arrayvec::ArrayVec;
 
@@ -33,7 +34,7 @@ fn is_allowed(nodes: usize, lag: Lag) -> bool
 
 // Raises the arrival where the lag ends, if it is too early for the lag, notes the lag's number as what raised it, and
 // says whether it did. Times go by `as`, since no `From` leads from u64 to i64 or back; it loses nothing, as is proved.
-fn raise(lag: &Lag, number: usize, arrivals: &mut [u64], parents: &mut [usize; MOST_NODES]) -> bool
+fn raise(lag: &Lag, number: u16, arrivals: &mut [u64], parents: &mut [u16; MOST_NODES]) -> bool
     requires inside { Inside (length arrivals.old) lag.now }
     requires few { length arrivals.old ≤ 1024 }
     requires low { Low arrivals.old (2 ^ 60) }
@@ -73,20 +74,27 @@ impl<'a> Graph<'a> {
         }
     }
 
-    // How many nodes are where a lag ends: no other is ever raised.
+    // How many nodes are where a lag ends: no other is ever raised. They are counted as they are marked, so that few lags
+    // take few steps.
     fn count_ends(&self) -> usize
         ensures exact { EndCount self.now.lags.now result }
         ensures few { result ≤ 1024 }
     {
         let mut marks = [false; MOST_NODES];
+        let mut ends = 0;
         for lag in self.lags {
-            marks[usize::from(lag.to)] = true;
+            let to = usize::from(lag.to);
+            if !marks[to] {
+                marks[to] = true;
+                ends += 1;
+            }
         }
-        marks.iter().filter(|mark| **mark).count()
+        ends
     }
 
-    // Goes through the lags once, and gives the node that was raised last, if any was.
-    fn raise_round(&self, arrivals: &mut [u64], parents: &mut [usize; MOST_NODES]) -> Option<u16>
+    // Goes through the lags once, and gives the node that was raised last, if any was. A lag's number goes by `as`, which
+    // loses nothing: there are at most 3,072 lags.
+    fn raise_round(&self, arrivals: &mut [u64], parents: &mut [u16; MOST_NODES]) -> Option<u16>
         requires nodes { length arrivals.old ≡ self.now.nodes }
         requires low { Low arrivals.old (2 ^ 59) }
         ensures round { Round self.now.lags.now arrivals.old parents.old arrivals.new parents.new result }
@@ -94,7 +102,7 @@ impl<'a> Graph<'a> {
     {
         let mut raised = None;
         for (number, lag) in self.lags.iter().enumerate() {
-            if raise(lag, number, arrivals, parents) {
+            if raise(lag, number as u16, arrivals, parents) {
                 raised = Some(lag.to);
             }
         }
@@ -102,43 +110,69 @@ impl<'a> Graph<'a> {
     }
 
     // Makes rounds from arrivals that are all 0 until one raises nothing, but at most one more than there are nodes at
-    // which a lag ends.
-    // If the last of them raised a node, gives the nodes of a ring, each before the one from which it is reached.
-    pub(crate) fn settle(&self, arrivals: &mut [u64]) -> Option<ArrayVec<u16, MOST_NODES>>
+    // which a lag ends. Gives the node that the last of them raised last, if it raised any; the parents have the number
+    // of the lag that raised each node last.
+    pub(crate) fn settle(
+        &self,
+        arrivals: &mut [u64],
+        parents: &mut [u16; MOST_NODES],
+    ) -> Option<u16>
         requires nodes { length arrivals.old ≡ self.now.nodes }
         requires zero { Low arrivals.old 0 }
         ensures { MatchOption result
             (Earliest self.now.lags.now arrivals.new)
-            (λ nodes. Cycle self.now.lags.now nodes.items) }
+            (λ v. Overrun self.now.lags.now (at parents.new) v × (v < self.now.nodes)) }
     {
-        // The number of the lag that raised each node last. No number stands for "none": a node that was never raised
-        // is never read, as is proved, and an Option would be a test that never fails.
-        let mut parents = [0; MOST_NODES];
         for _ in 0..self.count_ends() {
-            self.raise_round(arrivals, &mut parents)?;
+            self.raise_round(arrivals, parents)?;
         }
-        let last = self.raise_round(arrivals, &mut parents)?;
-        Some(self.trace_back(&parents, last))
+        self.raise_round(arrivals, parents)
     }
 
     // Goes back from `start`, from each node to the one that raised it last, until a node is met again.
-    // Gives the nodes from the first time that it was met, in this order.
-    fn trace_back(&self, parents: &[usize; MOST_NODES], start: u16) -> ArrayVec<u16, MOST_NODES>
+    // Adds the nodes to an empty list, and gives the place in it of the node that was met again.
+    fn trace_back(
+        &self,
+        parents: &[u16; MOST_NODES],
+        start: u16,
+        nodes: &mut ArrayVec<u16, MOST_NODES>,
+    ) -> usize
+        requires empty { nodes.old.items ≡ [] }
         requires inside { start < self.now.nodes }
         requires over { Overrun self.now.lags.now (at parents.now) start }
-        ensures { ParentCycle self.now.lags.now (at parents.now) result.items }
+        ensures { ParentCycle self.now.lags.now (at parents.now) (drop result nodes.new.items) }
     {
-        let mut nodes = ArrayVec::<u16, MOST_NODES>::new();
         let mut places = [None; MOST_NODES];
         let mut node = start;
         loop {
             if let Some(first) = places[usize::from(node)] {
-                nodes.drain(..first);
-                return nodes;
+                return usize::from(first);
             }
-            places[usize::from(node)] = Some(nodes.len());
+            // `as` loses nothing: there are at most 1,024 nodes.
+            places[usize::from(node)] = Some(nodes.len() as u16);
             nodes.push(node);
-            node = self.lags[parents[usize::from(node)]].from;
+            node = self.lags[usize::from(parents[usize::from(node)])].from;
         }
+    }
+
+    // Writes the ring into which the way back from `start` runs to the front of the page, and gives its length.
+    // Not inlined: its tables are for rings alone.
+    #[inline(never)]
+    pub(crate) fn write_ring(
+        &self,
+        parents: &[u16; MOST_NODES],
+        start: u16,
+        page: &mut [u16],
+    ) -> u16
+        requires inside { start < self.now.nodes }
+        requires over { Overrun self.now.lags.now (at parents.now) start }
+        requires room { self.now.nodes ≤ length page.old }
+        ensures { Looped self.now.lags.now self.now.nodes result page.old page.new }
+    {
+        let mut nodes = ArrayVec::new();
+        let first = self.trace_back(parents, start, &mut nodes);
+        let ring = &nodes[first..];
+        write_from_lowest(ring, page);
+        ring.len() as u16
     }
 }

@@ -4,7 +4,6 @@
 ghost use Rattle.lags.specs.Solved.{Solved};
 
 use graph::Graph;
-use rings::write_from_lowest;
 
 mod graph;
 mod rings;
@@ -43,14 +42,13 @@ pub fn solve(lags: &[Lag], arrivals: &mut [u64], ring: &mut [u16]) -> Result<(),
     }
     let graph = Graph::new(lags, arrivals.len()).ok_or(Unsolved::Unfit)?;
     arrivals.fill(0);
-    match graph.settle(arrivals) {
+    // The number of the lag that raised each node last. No number stands for "none": a node that was never raised is
+    // never read, as is proved, and an Option would be a test that never fails.
+    let mut parents = [0; MOST_NODES];
+    match graph.settle(arrivals, &mut parents) {
         None => Ok(()),
-        Some(nodes) => {
-            write_from_lowest(&nodes, ring);
-            // `as` loses nothing: there are at most 1,024 nodes.
-            Err(Unsolved::Ring {
-                length: nodes.len() as u16,
-            })
-        }
+        Some(last) => Err(Unsolved::Ring {
+            length: graph.write_ring(&parents, last, ring),
+        }),
     }
 }

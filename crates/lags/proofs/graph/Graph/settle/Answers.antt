@@ -1,7 +1,7 @@
 use Rattle.std.proofs.Common.{◌∙◌, arith}
 use Rattle.lags.proofs.Ceilings.{earliest}
 use Rattle.lags.proofs.InRounds.{rounds_none}
-use Rattle.lags.proofs.Settles.{overrun}
+use Rattle.lags.proofs.Settles.{last_round}
 use Rattle.lags.proofs.graph.Graph.settle.Goals as goal
 
 pub loop-init : goal.loop-init
@@ -13,11 +13,7 @@ returns-in_err-raise_round c =
     (earliest _ _ _ _ _ _ (c.raise_round.ensures.round.progress _ c.loop.invariant).progress (c.raise_round.ensures.round.quiet c.in_err-raise_round.was) c.args.self.now.allowed
     (c.raise_round.auto.arrivals ∙ c.loop.auto.arrivals ∙ c.requires.nodes))
 
-pub returns-in_err-last : goal.returns-in_err-last
-returns-in_err-last c =
-    rw c.from_residual-in_err-last.ensures
-    (earliest _ _ _ _ _ _ (c.raise_round-2.ensures.round.progress _ c.loop.invariant).progress (c.raise_round-2.ensures.round.quiet c.in_err-last.was) c.args.self.now.allowed
-    (c.raise_round-2.auto.arrivals ∙ c.loop.auto.arrivals ∙ c.requires.nodes))
-
-pub trace_back-requires-clause-over : goal.trace_back-requires-clause-over
-trace_back-requires-clause-over c = overrun _ _ _ _ _ _ _ _ (omega arith) c.count_ends-end.ensures.exact c.loop.invariant (rw c.in_ok-last.was at c.raise_round-2.ensures.round)
+pub returns : goal.returns
+returns c =
+    last_round _ _ _ _ _ _ _ _ _ (omega arith) c.count_ends-end.ensures.exact c.loop.invariant c.raise_round-2.ensures.round c.raise_round-2.ensures.within c.args.self.now.allowed
+    (c.raise_round-2.auto.arrivals ∙ c.loop.auto.arrivals ∙ c.requires.nodes)
