@@ -12,6 +12,7 @@ use crate::marks::Marks;
 use crate::refusal::JudgeRefusal;
 use crate::routes::Routes;
 use crate::tables::Tables;
+use crate::waits::Lags;
 use lags::{Unsolved, solve};
 use sheet::limits::MOST_STOPS;
 use sheet::sheets::Sheet;
@@ -41,7 +42,8 @@ fn settle<R: FollowingRule>(
     requires ring { length tables.routes.stops.now ≤ length ring.old }
     ensures { Settles (Between (R.FollowingRule.gaps rule.now) tables.entry.routes.stops.now tables.entry.legs.now tables.entry.routes.precedences.now) (length tables.entry.routes.stops.now) (max 36000 R.FollowingRule.LARGEST_GAP) (record { timetable = timetable.old; ring = ring.old; timetable_after = timetable.new; ring_after = ring.new }) result }
 {
-    let lags = tables.gather_lags(rule);
+    let mut lags = Lags::new();
+    tables.gather_lags(rule, &mut lags);
     let mut arrivals = [0; MOST_STOPS];
     let arrivals = &mut arrivals[0..tables.legs.len()];
     match solve(&lags, arrivals, ring) {

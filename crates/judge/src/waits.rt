@@ -1,5 +1,5 @@
 // The lags of a sheet: how long each step takes, and how long who goes second waits.
-ghost use Rattle.std.specs.Prelude.{◌≡◌, ◌+◌, ◌<◌, ◌≤◌, length, pos, ◌-ℤ◌, None, MatchOption};
+ghost use Rattle.std.specs.Prelude.{◌≡◌, [], ◌+◌, ◌<◌, ◌≤◌, length, pos, ◌-ℤ◌, None, MatchOption};
 ghost use Rattle.arrayvec.specs.ArrayVec.{array_vec_len};
 ghost use Rattle.judge.specs.Legs.{next_after};
 ghost use Rattle.judge.specs.Waits.{LagOf, Lists, Travel, Waiting};
@@ -22,15 +22,14 @@ fn waiting_time(gap: u32, time: u16) -> i32
 }
 
 impl Tables<'_> {
-    // The lag of the step to each stop that has one before it. By `enumerate`, as the legs are found.
-    #[inline]
-    fn gather_steps(self) -> Lags
-        ensures few { array_vec_len result ≤ length self.entry.routes.stops.now }
-        ensures gathered { Lists (Travel self.entry.routes.stops.now self.entry.legs.now (length self.entry.routes.stops.now)) result.items }
+    // Adds the lag of the step to each stop that has one before it to an empty list. By `enumerate`, as the legs are found.
+    fn gather_steps(self, lags: &mut Lags)
+        requires empty { lags.old.items ≡ [] }
+        ensures few { array_vec_len lags.new ≤ length self.entry.routes.stops.now }
+        ensures gathered { Lists (Travel self.entry.routes.stops.now self.entry.legs.now (length self.entry.routes.stops.now)) lags.new.items }
     {
         let stops = self.routes.stops;
         let legs = self.legs;
-        let mut lags = Lags::new();
         for (t, stop) in stops.iter().enumerate() {
             if let Some(previous) = stop.previous {
                 lags.push(Lag {
@@ -40,7 +39,6 @@ impl Tables<'_> {
                 });
             }
         }
-        lags
     }
 
     // The lag of a precedence: the second carrier reaches the place later than the gap after the first one's
@@ -74,13 +72,13 @@ impl Tables<'_> {
         }
     }
 
-    // The lags of the steps and of the precedences.
-    #[inline]
-    pub(crate) fn gather_lags<R: FollowingRule>(self, rule: &R) -> Lags
-        ensures { Lists (LagOf (R.FollowingRule.gaps rule.now) self.entry.routes.stops.now self.entry.legs.now self.entry.routes.precedences.now (length self.entry.routes.stops.now) (length self.entry.routes.precedences.now)) result.items }
+    // Adds the lags of the steps and of the precedences to an empty list. The list is lent: as a result it was copied
+    // twice in each judging.
+    pub(crate) fn gather_lags<R: FollowingRule>(self, rule: &R, lags: &mut Lags)
+        requires empty { lags.old.items ≡ [] }
+        ensures { Lists (LagOf (R.FollowingRule.gaps rule.now) self.entry.routes.stops.now self.entry.legs.now self.entry.routes.precedences.now (length self.entry.routes.stops.now) (length self.entry.routes.precedences.now)) lags.new.items }
     {
-        let mut lags = self.gather_steps();
-        self.gather_waits(rule, &mut lags);
-        lags
+        self.gather_steps(lags);
+        self.gather_waits(rule, lags);
     }
 }
