@@ -41,6 +41,17 @@ impl TakesLines for Replier {
     }
 }
 
+// A session takes lines by itself too, with a page for each reply.
+impl TakesLines for Session {
+    ghost takes = { λ s line before after s'. Replies s line before after s' };
+
+    fn take_line<W: Write>(&mut self, line: &[u8], out: &mut W) -> io::Result<()> {
+        let mut page = [0; LONGEST_REPLY];
+        let count = self.reply(line, &mut page);
+        put_reply(&page[..count], out)
+    }
+}
+
 // Opens a sheet beside the yard, and answers every line of the input with its reply. What was replied before an
 // error is left open.
 pub fn answer_lines<R: Read, W: Write>(
