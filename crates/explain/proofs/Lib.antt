@@ -1,3 +1,4 @@
 mod Finds
 mod JudgeNamed
 mod Named
+mod Told

@@ -44,7 +44,7 @@ module _ (lists : Lists) where
       let at = get_or_from_slice_get lists.stops s from.0 no_stop from.1 in
       (slice_get_within lists.stops s from.0 from.1, grind (arith, at, from.2), grind (arith, at, from.2))
 
-  visits_back : (s c u : ℕ) → facts.Visits lists.stops c u s → Visits (book_of lists) s c u
+  pub visits_back : (s c u : ℕ) → facts.Visits lists.stops c u s → Visits (book_of lists) s c u
   visits_back s c u v = grind (arith, v, slice_get-map_some book_stop lists.stops s _ (slice_get-get_or lists.stops s no_stop v.0))
 
   pub stands : (o : Order) → Standing (book_of lists) o.first o.second o.place → facts.Stands lists.precedences o

@@ -45,3 +45,9 @@ Stands precedences order = (k : ℕ) × IsOrder precedences order k
 -- the same two carriers at the place, the other way round
 abbrev pub reversed : Order → Order
 reversed order = record { first = order.second; second = order.first; place = order.place }
+
+-- what the carriers' records tell of their routes: a carrier's last stop is at its last place, and that is its goal where
+-- any stop of it is at its goal
+pub record RoutesTold (carriers : List Carrier) (stops : List Stop) : Type 0 where
+  pub last : (c : ℕ) → c < length carriers → Visits stops c (slice_index_or carriers c no_carrier).last_place (slice_index_or carriers c no_carrier).last_stop
+  pub ends : (c k : ℕ) → c < length carriers → Visits stops c (slice_index_or carriers c no_carrier).goal k → (slice_index_or carriers c no_carrier).last_place ≡ (slice_index_or carriers c no_carrier).goal

@@ -60,12 +60,12 @@ impl Records<'_> {
     }
 
     // The goal of a carrier whose route has reached it.
+    #[tactic(auto, using(crate::proofs::Told::goal_told))]
     fn goal_reached(&self, carrier: u8) -> Option<u16>
         ensures { Finds (AtGoal self.now.carriers self.now.stops carrier) result }
     {
-        let goal = self.carriers.get(usize::from(carrier))?.goal;
-        self.stop_at(carrier, goal)?;
-        Some(goal)
+        let record = self.carriers.get(usize::from(carrier))?;
+        record.is_at_goal().then_some(record.goal)
     }
 
     // Why a stop is refused.
@@ -178,9 +178,11 @@ impl Records<'_> {
                     .or(self.off_route(second, place))
             }
             EntryRefusal::FirstsGoalOrSecondsStart => self.end_of_route(order),
-            EntryRefusal::AlreadyDecided => {
-                self.decided(order).or(self.decided(order.reversed()))
+            // The other way round is searched for only where this way does not stand.
+            EntryRefusal::AlreadyDecided if self.standing(order).is_some() => {
+                Some(Cause::Decided { order })
             }
+            EntryRefusal::AlreadyDecided => self.decided(order.reversed()),
             EntryRefusal::LimitReached if self.precedences.len() >= MOST_PRECEDENCES => {
                 Some(Cause::TooManyPrecedences)
             }

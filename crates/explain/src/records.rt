@@ -18,17 +18,22 @@ pub(crate) struct Records<'a> {
     pub precedences: &'a [Precedence],
 }
 
-// A contract sees the lists themselves.
+// A contract sees the lists themselves. A carrier's record tells whether its route has reached its goal, so that this is
+// not searched for.
 impl<'a> Model for Records<'a> {
+    ghost use Rattle.explain.specs.Facts.{RoutesTold};
     ghost use Rattle.explain.specs.Lists.{Lists};
 
     ghost Value = { Lists };
 
     ghost view = { λ r. record { carriers = r.carriers.now; stops = r.stops.now; precedences = r.precedences.now } };
+
+    ghost invariant = { λ r. RoutesTold r.carriers.now r.stops.now };
 }
 
 impl<'a> Records<'a> {
     // Those of this sheet.
+    #[tactic(auto, using(crate::proofs::Told::routes_told))]
     pub(crate) fn of(sheet: &'a Sheet) -> Records<'a>
         ensures { result ≡ lists_of sheet.now }
     {
