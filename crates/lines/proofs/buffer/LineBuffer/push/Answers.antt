@@ -16,7 +16,7 @@ whole n before after line byte next keeps = grind (arith, common_steps)
 pub returns-then-not-is_full : goal.returns-then-not-is_full
 returns-then-not-is_full c =
     let kept = c.args.self.now.bytes.items in
-    let next = more 65 kept _ c.args.byte (search rules) (search rules) in
+    let next = more 65 kept _ c.args.byte (search rules) (grind (arith, common_steps)) in
     record { next = next; whole = λ line. whole 65 kept _ line c.args.byte next }
 
 pub returns-else-not-is_full : goal.returns-else-not-is_full
