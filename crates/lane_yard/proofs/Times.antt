@@ -1,9 +1,15 @@
 -- What `time_of` answers.
-use Rattle.std.specs.Prelude.{◌≡◌, ℕ, zero, suc, ◌<◌, true, false, ◌&&◌, ◌⊎◌, List, [], ◌∷◌, length, Some, None, ◌==◌, slice_index_or, refl}
+use Rattle.std.specs.Prelude.{◌≡◌, ℕ, zero, suc, ◌<◌, true, false, ◌&&◌, ◌⊎◌, List, [], ◌∷◌, length, Some, None, ◌==◌, ◌≢◌, slice_index_or, refl}
 use Rattle.std.proofs.Common.{arith}
 use Rattle.std.proofs.lemmas.Bool.Decides.{nat_tests}
 use Rattle.lane_yard.specs.declared.lane.Lane.{Lane}
 use Rattle.lane_yard.specs.Records.{no_lane, time_of, Absent}
+
+hit : (a b f t : ℕ) → a ≡ f → b ≡ t → (a == f && b == t) ≡ true
+hit a b f t p q = grind (arith, nat_tests)
+
+miss : (a b f t : ℕ) → (a ≡ f → b ≢ t) → (a == f && b == t) ≡ false
+miss a b f t n = grind (arith, nat_tests)
 
 pub way : (a b f t : ℕ) → (((a == f && b == t) ≡ true) × (a ≡ f) × (b ≡ t)) ⊎ ((a == f && b == t) ≡ false)
 way a b f t = grind (arith, nat_tests)
