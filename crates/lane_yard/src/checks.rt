@@ -24,7 +24,11 @@ fn is_within(lane: &Lane) -> bool
 pub(crate) fn is_before(a: &Lane, b: &Lane) -> bool
     ensures { IsTrue result ↔ Before a.now b.now }
 {
-    a.from < b.from || (a.from == b.from && a.to < b.to)
+    if a.from == b.from {
+        a.to < b.to
+    } else {
+        a.from < b.from
+    }
 }
 
 // The first fault of a list, if it has one.
