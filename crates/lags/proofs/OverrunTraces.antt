@@ -117,6 +117,3 @@ module _ (lags : List Lag) (p : ℕ → ℕ) (n v : ℕ) (xs : List ℕ) (places
           inside = (All-get_or (Allowed n) lags (p x) no_lag tracing_named allowed).0.0;
           size = length-set places x (Some (length xs)) ∙ t.size;
         }
-
-pub same_cycle : (lags : List Lag) (p : ℕ → ℕ) (xs ys : List ℕ) → ys ≡ xs → ParentCycle lags p xs → ParentCycle lags p ys
-same_cycle lags p xs ys e c = rw e c

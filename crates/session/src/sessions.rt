@@ -99,7 +99,7 @@ impl Session {
 
     // Judges the sheet in the yard under the rule that a line names.
     // Here and below `same`, `stand` and `within` are clauses of their own: a caller asks for each alone.
-    // Not inlined: a judging has about 150 KiB of tables on the stack, which a line that asks for none would make room
+    // Not inlined: a judging has about 130 KiB of tables on the stack, which a line that asks for none would make room
     // for too.
     #[inline(never)]
     fn judge_under(&mut self, rule: Rule) -> Result<Answer, Refusal>
