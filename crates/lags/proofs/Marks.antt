@@ -1,7 +1,8 @@
 -- How many nodes are where lags end, by marks.
-use Rattle.std.proofs.Common.{◌≡◌, ℕ, IsTrue, ◌↔◌, count_by, ◌+◌, ◌<◌, ◌≤◌, Bool, true, false, List, [], ◌∷◌, length, get_or, take, set, replicate, sym, refl, ap, ◌∙◌, ⊎_elim, arith}
+use Rattle.std.proofs.Common.{◌≡◌, ℕ, IsTrue, cond, ◌+◌, ◌<◌, ◌≤◌, Bool, true, false, List, [], ◌∷◌, length, get_or, take, set, replicate, sym, refl, ap, ◌∙◌, ⊎_elim, arith}
 use Rattle.std.specs.List.{All}
-use Rattle.std.proofs.lemmas.List.{get_or-set_same, get_or-set_other, get_or_past, get_or-replicate, length-replicate, length-set, length-take-le, get_or-take, take_more, take_all}
+use Rattle.std.proofs.lemmas.List.{get_or-set_same, get_or-set_other, get_or_past, get_or-replicate, length-replicate, length-set, take_more, take_all}
+use Rattle.std.proofs.lemmas.List.Sums.{sum_by-set, count_by-le-length}
 use Rattle.std.proofs.lemmas.List.Elements.{All-weaker, All-contains, Contains-append_left, Contains-push, Contains-push_cases}
 use Rattle.std.proofs.lemmas.Bool.{both_ways, cases_eq, cases_lt}
 use Rattle.lags.specs.declared.Lag.{Lag}
@@ -37,39 +38,50 @@ end_cases : (lags : List Lag) (i v : ℕ) → i < length lags → (¬ v ≡ (lag
 end_cases lags i v l ne e =
     ⊎_elim (λ h. (e.0, h, e.2)) (λ q. absurd (ne (sym e.2 ∙ sym (ap (λ (g : Lag). g.to) q)))) (Contains-push_cases (take i lags) (lag_at lags i) e.0 (rw (take_more lags i no_lag l) at e.1))
 
-pub marking_none : (lags : List Lag) → Marking lags 0 (replicate 1024 false)
+pub marking_none : (lags : List Lag) → Marking lags 0 (replicate 1024 false) 0
 marking_none lags = record {
   marked = λ v. (λ e. absurd (both_ways (get_or (replicate 1024 false) v false) (no_mark 1024 v) e), λ e. absurd (end_none v e));
+  many = refl;
   size = length-replicate 1024 false;
 }
 
-pub marking_more : (lags : List Lag) (i : ℕ) (marks : List Bool) → Marking lags i marks → i < length lags → (lag_at lags i).to < 1024 → Marking lags (i + 1) (set marks (lag_at lags i).to true)
-marking_more lags i marks m l b = record {
-  marked = λ v. (
-    λ h. ⊎_elim (λ q. rw q (end_here lags i l)) (λ ne. end_before lags i v l ((m.marked v).0 (rw (other v ne) at h))) (cases_eq v (lag_at lags i).to),
-    λ h. ⊎_elim (λ q. rw q here) (λ ne. rw (other v ne) ((m.marked v).1 (end_cases lags i v l ne h))) (cases_eq v (lag_at lags i).to),
-  );
-  size = length-set marks (lag_at lags i).to true ∙ m.size;
-}
-  where
-    here : get_or (set marks (lag_at lags i).to true) (lag_at lags i).to false ≡ true
-    here = get_or-set_same marks (lag_at lags i).to true false (omega (arith, m.size))
+module _ (lags : List Lag) (i : ℕ) (marks : List Bool) (n : ℕ) (m : Marking lags i marks n) (l : i < length lags) where
+  -- where the next lag ends is marked already
+  pub marking_again : get_or marks (lag_at lags i).to false ≡ true → Marking lags (i + 1) marks n
+  marking_again e = record {
+    marked = λ v. (
+      λ h. end_before lags i v l ((m.marked v).0 h),
+      λ h. ⊎_elim (λ q. rw q e) (λ ne. (m.marked v).1 (end_cases lags i v l ne h)) (cases_eq v (lag_at lags i).to),
+    );
+    many = m.many;
+    size = m.size;
+  }
 
-    other : (v : ℕ) → (¬ v ≡ (lag_at lags i).to) → get_or (set marks (lag_at lags i).to true) v false ≡ get_or marks v false
-    other v ne = get_or-set_other marks (lag_at lags i).to v true false ne
+  -- or it is marked now
+  pub marking_new : (lag_at lags i).to < 1024 → get_or marks (lag_at lags i).to false ≡ false → Marking lags (i + 1) (set marks (lag_at lags i).to true) (n + 1)
+  marking_new b e = record {
+    marked = λ v. (
+      λ h. ⊎_elim (λ q. rw q (end_here lags i l)) (λ ne. end_before lags i v l ((m.marked v).0 (rw (other v ne) at h))) (cases_eq v (lag_at lags i).to),
+      λ h. ⊎_elim (λ q. rw q here) (λ ne. rw (other v ne) ((m.marked v).1 (end_cases lags i v l ne h))) (cases_eq v (lag_at lags i).to),
+    );
+    many =
+        let f = sum_by-set (λ b. cond b 1 0) marks (lag_at lags i).to true false inside in
+        let z : ◌≡◌ {A = ℕ} (cond (get_or marks (lag_at lags i).to false) 1 0) 0 = ap (λ b. cond {A = ℕ} b 1 0) e in
+        omega (arith, m.many, f, z);
+    size = length-set marks (lag_at lags i).to true ∙ m.size;
+  }
+    where
+      inside : (lag_at lags i).to < length marks
+      inside = omega (arith, m.size)
 
--- a node that is none of the first n is no end, so that their marks tell all
-pub marking_all : (lags : List Lag) (i : ℕ) (marks : List Bool) (n m : ℕ) → Marking lags i marks → length lags ≤ i → All (Allowed n) lags → n ≤ 1024 → m ≡ count_by (λ b. b) (take n marks) → EndCount lags m
-marking_all lags i marks n m k l allowed few c = record { marks = take n marks; marked = front; many = c }
-  where
-    all : (v : ℕ) → IsTrue (get_or marks v false) ↔ End lags v
-    all = rw (take_all i lags l) at k.marked
+      here : get_or (set marks (lag_at lags i).to true) (lag_at lags i).to false ≡ true
+      here = get_or-set_same marks (lag_at lags i).to true false inside
 
-    front : (v : ℕ) → IsTrue (get_or (take n marks) v false) ↔ End lags v
-    front v = ⊎_elim
-        (λ h. rw (get_or-take n marks v false h) (all v))
-        (λ h. (
-          λ e. absurd (both_ways (get_or (take n marks) v false) (get_or_past (take n marks) v false (omega (arith, h, length-take-le n marks (omega (arith, k.size, few))))) e),
-          λ e. absurd (omega (arith, h, e.2, (All-contains (Allowed n) lags e.0 allowed e.1).0.1)),
-        ))
-        (cases_lt v n)
+      other : (v : ℕ) → (¬ v ≡ (lag_at lags i).to) → get_or (set marks (lag_at lags i).to true) v false ≡ get_or marks v false
+      other v ne = get_or-set_other marks (lag_at lags i).to v true false ne
+
+pub marking_few : (lags : List Lag) (i : ℕ) (marks : List Bool) (n : ℕ) → Marking lags i marks n → n ≤ 1024
+marking_few lags i marks n m = omega (arith, m.many, m.size, count_by-le-length (λ b. b) marks)
+
+pub marking_all : (lags : List Lag) (i : ℕ) (marks : List Bool) (n : ℕ) → Marking lags i marks n → length lags ≤ i → EndCount lags n
+marking_all lags i marks n m l = record { marks = marks; marked = rw (take_all i lags l) at m.marked; many = m.many }

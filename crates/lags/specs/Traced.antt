@@ -18,9 +18,10 @@ pub record EndCount (lags : List Lag) (m : ℕ) : Type 0 where
   pub marked : (v : ℕ) → IsTrue (slice_index_or marks v false) ↔ End lags v
   pub many : m ≡ count_by (λ b. b) marks
 
--- the marked nodes are those where the first i lags end
-pub record Marking (lags : List Lag) (i : ℕ) (marks : List Bool) : Type 0 where
+-- the marked nodes are those where the first i lags end, n of them
+pub record Marking (lags : List Lag) (i : ℕ) (marks : List Bool) (n : ℕ) : Type 0 where
   pub marked : (v : ℕ) → IsTrue (slice_index_or marks v false) ↔ End (take i lags) v
+  pub many : n ≡ count_by (λ b. b) marks
   pub size : length marks ≡ 1024
 
 -- one more round than the lags end at nodes was made, each raised something, and the last of them raised v last

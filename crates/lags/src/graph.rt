@@ -74,17 +74,22 @@ impl<'a> Graph<'a> {
         }
     }
 
-    // How many nodes are where a lag ends: no other is ever raised. Only the marks of the graph's nodes are gone
-    // through, so that a small graph takes few steps.
+    // How many nodes are where a lag ends: no other is ever raised. They are counted as they are marked, so that few lags
+    // take few steps.
     fn count_ends(&self) -> usize
         ensures exact { EndCount self.now.lags.now result }
         ensures few { result ≤ 1024 }
     {
         let mut marks = [false; MOST_NODES];
+        let mut ends = 0;
         for lag in self.lags {
-            marks[usize::from(lag.to)] = true;
+            let to = usize::from(lag.to);
+            if !marks[to] {
+                marks[to] = true;
+                ends += 1;
+            }
         }
-        marks[..self.nodes].iter().filter(|mark| **mark).count()
+        ends
     }
 
     // Goes through the lags once, and gives the node that was raised last, if any was. A lag's number goes by `as`, which
