@@ -1,8 +1,7 @@
 -- The way back from a node that was raised, along what raised what.
-use Rattle.std.specs.Prelude.{◌≡◌, ℕ, ◌+◌, ◌*◌, ◌<◌, ◌≤◌, Bool, false, List, [], ◌∷◌, ◌++◌, reverse, length, take, ℤ, pos, ◌+ℤ◌, ◌↔◌, Option, Some, None, IsTrue, count_by, ◌≢◌, slice_index_or}
+use Rattle.std.specs.Prelude.{◌≡◌, ℕ, ◌+◌, ◌*◌, ◌<◌, ◌≤◌, Bool, false, List, [], ◌∷◌, ◌++◌, reverse, length, take, ℤ, pos, ◌+ℤ◌, ◌↔◌, IsTrue, count_by, ◌≢◌, slice_index_or}
 use Rattle.std.specs.List.{Contains, All, AllPairs}
 use Rattle.lags.specs.declared.Lag.{Lag}
-use Rattle.lags.specs.Solved.{at}
 use Rattle.lags.specs.Progress.{lag_at, RaisedBy, Progress}
 
 abbrev pub Distinct : List ℕ → Type 0
@@ -72,17 +71,17 @@ module _ (lags : List Lag) (p : ℕ → ℕ) where
     pub traced : Traced a when node xs node
     pub some : 0 < length xs
 
--- the places have for each node where it stands in xs, and none for every other
-pub record Placed (xs : List ℕ) (places : List (Option ℕ)) : Type 0 where
-  pub seen : All (λ y. slice_index_or places y None ≢ None) xs
-  pub stands : (y k : ℕ) → slice_index_or places y None ≡ Some k → (k < length xs) × (at xs k ≡ y)
+-- the nodes that are marked as met are those of xs
+pub record Met (xs : List ℕ) (met : List Bool) : Type 0 where
+  pub seen : All (λ y. IsTrue (slice_index_or met y false)) xs
+  pub stands : (y : ℕ) → IsTrue (slice_index_or met y false) → Contains xs y
 
 -- the way back from v through the nodes xs has come to x, one of the first `nodes`
-pub record Tracing (lags : List Lag) (p : ℕ → ℕ) (nodes v : ℕ) (xs : List ℕ) (places : List (Option ℕ)) (x : ℕ) : Type 0 where
+pub record Tracing (lags : List Lag) (p : ℕ → ℕ) (nodes v : ℕ) (xs : List ℕ) (met : List Bool) (x : ℕ) : Type 0 where
   pub trace : OverrunTrace lags p v xs x
-  pub placed : Placed xs places
+  pub marked : Met xs met
   pub inside : x < nodes
-  pub size : length places ≡ 1024
+  pub size : length met ≡ 1024
 
 -- the numbers in the opposite order, going round from the lowest
 pub record Turned (xs ys : List ℕ) : Type 0 where

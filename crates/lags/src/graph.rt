@@ -1,6 +1,6 @@
 // The graph of the lags, and the rounds through it, which raise arrivals until every lag is kept. The arrays have fixed
 // sizes, since solving takes no memory.
-ghost use Rattle.std.specs.Prelude.{◌≡◌, ℕ, ◌+◌, ◌^◌, ◌<◌, ◌≤◌, ◌↔◌, [], drop, length, pos, ◌+ℤ◌, All, IsTrue, IsSome, IfSome, MatchOption, if◌then◌else◌, int_lt, slice_set};
+ghost use Rattle.std.specs.Prelude.{◌≡◌, ℕ, ◌+◌, ◌^◌, ◌<◌, ◌≤◌, ◌↔◌, ◌≢◌, [], drop, length, pos, ◌+ℤ◌, All, IsTrue, IsSome, IfSome, MatchOption, if◌then◌else◌, int_lt, slice_set};
 ghost use Rattle.lags.specs.Progress.{Low, Round};
 ghost use Rattle.lags.specs.Solved.{Allowed, Earliest, Inside, Looped, at};
 ghost use Rattle.lags.specs.Times.{after};
@@ -54,6 +54,15 @@ fn raise(lag: &Lag, number: u16, arrivals: &mut [u64], parents: &mut [u16; MOST_
         return true;
     }
     false
+}
+
+// Where the node stands first among the nodes.
+fn place_of(nodes: &[u16], wanted: u16) -> Option<usize>
+    ensures { MatchOption result
+        (All (λ node. node ≢ wanted) nodes.now)
+        (λ k. (k < length nodes.now) × (at nodes.now k ≡ wanted)) }
+{
+    nodes.iter().position(|node| *node == wanted)
 }
 
 impl<'a> Graph<'a> {
@@ -142,17 +151,14 @@ impl<'a> Graph<'a> {
         requires over { Overrun self.now.lags.now (at parents.now) start }
         ensures { ParentCycle self.now.lags.now (at parents.now) (drop result nodes.new.items) }
     {
-        let mut places = [None; MOST_NODES];
+        let mut met = [false; MOST_NODES];
         let mut node = start;
-        loop {
-            if let Some(first) = places[usize::from(node)] {
-                return usize::from(first);
-            }
-            // `as` loses nothing: there are at most 1,024 nodes.
-            places[usize::from(node)] = Some(nodes.len() as u16);
+        while !met[usize::from(node)] {
+            met[usize::from(node)] = true;
             nodes.push(node);
             node = self.lags[usize::from(parents[usize::from(node)])].from;
         }
+        place_of(nodes, node).unwrap()
     }
 
     // Writes the ring into which the way back from `start` runs to the front of the page, and gives its length.
