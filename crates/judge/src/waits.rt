@@ -22,7 +22,8 @@ fn waiting_time(gap: u32, time: u16) -> i32
 }
 
 impl Tables<'_> {
-    // Adds the lag of the step to each stop that has one before it to an empty list. By `enumerate`, as the legs are found.
+    // Adds the lag of the step to each stop that has one before it to an empty list. By `enumerate`, as the legs are
+    // found.
     fn gather_steps(self, lags: &mut Lags)
         requires empty { lags.old.items ≡ [] }
         ensures few { array_vec_len lags.new ≤ length self.entry.routes.stops.now }

@@ -22,7 +22,7 @@ pub ends_below : (lags : List Lag) (n : ℕ) → All (Allowed n) lags → (xs : 
 ends_below lags n a xs h d = length-le_from_below n xs d (ends_inside lags n a xs h)
 
 -- the ends of no lags, and of one more
-no_mark : (n v : ℕ) → get_or (replicate n false) v false ≡ false
+pub no_mark : (n v : ℕ) → get_or (replicate n false) v false ≡ false
 no_mark n v = ⊎_elim (λ h. get_or-replicate n v false false h) (λ h. get_or_past (replicate n false) v false (omega (arith, length-replicate n false))) (cases_lt v n)
 
 end_none : (v : ℕ) → ¬ End [] v

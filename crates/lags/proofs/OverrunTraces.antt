@@ -1,7 +1,7 @@
 -- The way back after an overrun comes to a node again.
 use Rattle.std.proofs.Common.{◌≡◌, ◌≢◌, ℕ, Bool, true, false, IsTrue, IsSome, MatchOption, Option, Some, None, get_or, ◌<◌, ◌≤◌, List, [], ◌∷◌, ◌++◌, length, drop, set, replicate, refl, ap, ◌∙◌, ⊎_elim, mul-le-mul_right, arith}
 use Rattle.std.specs.List.{All, Contains}
-use Rattle.std.proofs.lemmas.List.{length-set, length_push, length-drop, length-replicate, get_or_past, get_or-replicate, get_or-set_same, get_or-set_other}
+use Rattle.std.proofs.lemmas.List.{length-set, length_push, length-drop, length-replicate, get_or-set_same, get_or-set_other}
 use Rattle.std.proofs.lemmas.List.Elements.{All-nil, All-push, All-get_or, All-weaker, All-contains, Contains-append_left, Contains-push}
 use Rattle.std.proofs.lemmas.Bool.{both_ways, cases_eq, cases_lt}
 use Rattle.lags.specs.declared.Lag.{Lag}
@@ -9,12 +9,9 @@ use Rattle.lags.specs.Solved.{Allowed}
 use Rattle.lags.specs.Progress.{no_lag, RaisedBy}
 use Rattle.lags.specs.Traced.{Overrun, parent, OverrunTrace, ParentCycle, Met, Tracing}
 use Rattle.lags.proofs.Traces.{raised_ends, traced_none, traced_more, traced_round}
-use Rattle.lags.proofs.Marks.{ends_most, ends_below}
+use Rattle.lags.proofs.Marks.{no_mark, ends_most, ends_below}
 
 -- marks of no nodes, and of one more
-no_mark : (n v : ℕ) → get_or (replicate n false) v false ≡ false
-no_mark n v = ⊎_elim (λ h. get_or-replicate n v false false h) (λ h. get_or_past (replicate n false) v false (omega (arith, length-replicate n false))) (cases_lt v n)
-
 pub met_none : (n : ℕ) → Met [] (replicate n false)
 met_none n = record {
   seen = All-nil (λ y. IsTrue (get_or (replicate n false) y false));

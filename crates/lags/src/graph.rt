@@ -83,8 +83,8 @@ impl<'a> Graph<'a> {
         }
     }
 
-    // How many nodes are where a lag ends: no other is ever raised. They are counted as they are marked, so that few lags
-    // take few steps.
+    // How many nodes are where a lag ends: no other is ever raised. They are counted as they are marked, so that few
+    // lags take few steps.
     fn count_ends(&self) -> usize
         ensures exact { EndCount self.now.lags.now result }
         ensures few { result ≤ 1024 }
@@ -101,8 +101,8 @@ impl<'a> Graph<'a> {
         ends
     }
 
-    // Goes through the lags once, and gives the node that was raised last, if any was. A lag's number goes by `as`, which
-    // loses nothing: there are at most 3,072 lags.
+    // Goes through the lags once, and gives the node that was raised last, if any was. A lag's number goes by `as`,
+    // which loses nothing: there are at most 3,072 lags.
     fn raise_round(&self, arrivals: &mut [u64], parents: &mut [u16; MOST_NODES]) -> Option<u16>
         requires nodes { length arrivals.old ≡ self.now.nodes }
         requires low { Low arrivals.old (2 ^ 59) }
@@ -161,8 +161,8 @@ impl<'a> Graph<'a> {
         place_of(nodes, node).unwrap()
     }
 
-    // Writes the ring into which the way back from `start` runs to the front of the page, and gives its length.
-    // Not inlined: its tables are for rings alone.
+    // Writes the ring into which the way back from `start` runs to the front of the page, and gives its length. `as`
+    // loses nothing: there are at most 1,024 nodes. Not inlined: its tables are for rings alone.
     #[inline(never)]
     pub(crate) fn write_ring(
         &self,
